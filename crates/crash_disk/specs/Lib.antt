@@ -1,0 +1,5 @@
+pub mod Below
+pub mod Disks
+pub mod InOrder
+pub mod Log
+pub mod Memory

@@ -1,0 +1,7 @@
+//! Calls of the layers, as tables: that each succeeds where memory is there, and what it gives.
+#![tactic(auto)]
+
+#[cfg(test)]
+mod devices;
+#[cfg(test)]
+mod names;

@@ -1,0 +1,53 @@
+// Files of the machine, as they are read.
+use crate::fault::FileError;
+use std::alloc::Global;
+use std::fs;
+use std::fs::Metadata;
+use std::io::{ErrorKind, Read};
+use std::rt::Files;
+
+/// What was read of a file, up to a limit in bytes.
+#[derive(Drop)]
+pub enum Content {
+    Absent,
+    Bytes(Vec<u8>),
+    TooLong,
+}
+
+/// What stands at a path. A link is not followed.
+pub fn found_at<R: Files>(rt: &R, path: &str) -> Result<Option<Metadata>, FileError> {
+    match fs::symlink_metadata(rt, path) {
+        Ok(data) => Ok(Some(data)),
+        Err(error) => {
+            if error.kind() == ErrorKind::NotFound {
+                return Ok(None);
+            }
+            Err(FileError::Io(error))
+        }
+    }
+}
+
+/// Reads the file at a path, if it has at most `limit` bytes. Links are followed, and one that leads nowhere is an
+/// error.
+pub fn read_file<R: Files>(
+    rt: &R,
+    alloc: Global,
+    path: &str,
+    limit: u64,
+) -> Result<Content, FileError> {
+    let file = match fs::open(rt, path) {
+        Ok(file) => file,
+        Err(error) => {
+            if error.kind() == ErrorKind::NotFound && found_at(rt, path)?.is_none() {
+                return Ok(Content::Absent);
+            }
+            return Err(FileError::Io(error));
+        }
+    };
+    let mut bytes = Vec::new(alloc);
+    let count = file.take(limit.saturating_add(1)).read_to_end(&mut bytes)?;
+    if count as u64 > limit {
+        return Ok(Content::TooLong);
+    }
+    Ok(Content::Bytes(bytes))
+}

@@ -1,0 +1,126 @@
+// Folders of the machine. A link to a folder counts as a file.
+use crate::fault::FileError;
+use crate::files::found_at;
+use std::alloc::{AllocError, Global};
+use std::fs;
+use std::io::ErrorKind;
+use std::rt::Files;
+
+/// The path of what stands below a folder.
+pub fn path_below(alloc: Global, folder: &str, path: &str) -> Result<String, AllocError> {
+    let mut full = String::from_str(alloc, folder)?;
+    full.push_str("/")?;
+    full.push_str(path)?;
+    Ok(full)
+}
+
+/// The folder in which a path stands.
+pub fn folder_of(path: &str) -> &str {
+    match path.rsplit_once('/') {
+        Some(("", _)) => "/",
+        Some((folder, _)) => folder,
+        None => ".",
+    }
+}
+
+/// Whether each folder stands on the way to a path, from the root on. What stands there and is no folder is an error.
+pub fn way_stands<R: Files>(rt: &R, root: &str, path: &str) -> Result<bool, FileError> {
+    for end in root.len()..path.len() {
+        if let Some(folder) = folder_to(path, end)
+            && !is_folder(rt, folder)?
+        {
+            return Ok(false);
+        }
+    }
+    Ok(true)
+}
+
+/// Makes the folders that are missing on the way to a path, from the root on, and adds each to the list before it is
+/// made.
+pub fn make_way<R: Files>(
+    rt: &R,
+    alloc: Global,
+    root: &str,
+    path: &str,
+    made: &mut Vec<String>,
+) -> Result<(), FileError> {
+    for end in root.len()..path.len() {
+        if let Some(folder) = folder_to(path, end)
+            && !is_folder(rt, folder)?
+        {
+            made.push(String::from_str(alloc, folder)?)?;
+            make_folder(rt, folder)?;
+        }
+    }
+    Ok(())
+}
+
+// The first bytes of a path, where a slash comes after them.
+fn folder_to(path: &str, end: usize) -> Option<&str> {
+    match path.split_at_checked(end) {
+        Some((folder, rest)) if rest.starts_with('/') => Some(folder),
+        _ => None,
+    }
+}
+
+fn is_folder<R: Files>(rt: &R, path: &str) -> Result<bool, FileError> {
+    match found_at(rt, path)? {
+        None => Ok(false),
+        Some(data) => {
+            if !data.is_dir() {
+                return Err(FileError::NoFolder);
+            }
+            Ok(true)
+        }
+    }
+}
+
+// Makes a folder, unless another thread has made it meanwhile.
+fn make_folder<R: Files>(rt: &R, path: &str) -> Result<(), FileError> {
+    match fs::create_dir(rt, path) {
+        Ok(()) => Ok(()),
+        Err(error) => {
+            if error.kind() == ErrorKind::AlreadyExists && is_folder(rt, path)? {
+                return Ok(());
+            }
+            Err(FileError::Io(error))
+        }
+    }
+}
+
+/// The folders of a tree, each before those in it, or `None` where some file is in the tree.
+pub fn bare_folders<R: Files + Alloc + Clone + Drop>(
+    rt: &R,
+    alloc: Global,
+    top: &str,
+) -> Result<Option<Vec<String>>, FileError> {
+    let mut folders = Vec::new(alloc);
+    folders.push(String::from_str(alloc, top)?)?;
+    for at in 0..usize::MAX {
+        let Some(folder) = folders.get(at) else {
+            break;
+        };
+        let folder = String::from_str(alloc, folder.as_str())?;
+        if add_folders(rt, alloc, folder.as_str(), &mut folders)? {
+            return Ok(None);
+        }
+    }
+    Ok(Some(folders))
+}
+
+// Adds the folders in a folder to the list, unless a file is there.
+fn add_folders<R: Files + Alloc + Clone + Drop>(
+    rt: &R,
+    alloc: Global,
+    folder: &str,
+    folders: &mut Vec<String>,
+) -> Result<bool, FileError> {
+    for entry in fs::read_dir(rt, folder)? {
+        let entry = entry?;
+        if !entry.file_type()?.is_dir() {
+            return Ok(true);
+        }
+        folders.push(String::from_str(alloc, entry.path().as_str())?)?;
+    }
+    Ok(false)
+}

@@ -1,0 +1,195 @@
+// The folder of a switch. No path in it is followed through a link.
+use crate::fault::FileError;
+use crate::files::{Content, found_at, read_file};
+use crate::folders::{bare_folders, folder_of, make_way, path_below, way_stands};
+use crate::loose::Loose;
+use crash_disk::{DiskRead, Look};
+use opam_names::{Items, RelPath};
+use std::alloc::Global;
+use std::fs;
+use std::fs::{File, OpenFile, OpenOptions, Permissions, TryLockError};
+use std::io::Write;
+use std::os::unix::fs::PermissionsExt;
+use std::rt::Files;
+
+const LOCK: &str = ".opam-switch/lock";
+
+/// The folder of a switch, with what is to be made durable of it.
+#[derive(Drop)]
+pub struct SwitchFolder<R: Files<File = File>> {
+    alloc: Global,
+    rt: R,
+    root: String,
+    loose: Loose,
+    lock: Option<File>,
+}
+
+impl<R: Files<File = File> + Alloc + Clone + Drop> SwitchFolder<R> {
+    /// The folder need not be there yet; the one above it must be.
+    pub fn new(alloc: Global, rt: R, root: String) -> SwitchFolder<R> {
+        let loose = Loose::new(alloc, root.len());
+        SwitchFolder {
+            alloc,
+            rt,
+            root,
+            loose,
+            lock: None,
+        }
+    }
+
+    /// Whether the switch is this run's until the process ends.
+    pub fn claim(&mut self) -> Result<bool, FileError> {
+        if self.lock.is_some() {
+            return Ok(true);
+        }
+        let path = path_below(self.alloc, self.root.as_str(), LOCK)?;
+        self.make_folders(path.as_str())?;
+        self.lock = try_lock(&self.rt, path.as_str())?;
+        Ok(self.lock.is_some())
+    }
+
+    /// What stands at a path. A link is a file.
+    pub fn look(&self, path: &RelPath) -> Result<Look, FileError> {
+        let full = path_below(self.alloc, self.root.as_str(), path.as_str())?;
+        if !way_stands(&self.rt, self.root.as_str(), full.as_str())? {
+            return Ok(Look::Absent);
+        }
+        let Some(data) = found_at(&self.rt, full.as_str())? else {
+            return Ok(Look::Absent);
+        };
+        if !data.is_dir() {
+            return Ok(Look::File);
+        }
+        match bare_folders(&self.rt, self.alloc, full.as_str())? {
+            Some(_) => Ok(Look::Absent),
+            None => Ok(Look::Folder),
+        }
+    }
+
+    /// The file at a path, if it has at most `limit` bytes. A folder is no file, and a link is an error.
+    pub fn read(&self, alloc: Global, path: &RelPath, limit: u64) -> Result<DiskRead, FileError> {
+        let full = path_below(self.alloc, self.root.as_str(), path.as_str())?;
+        if !way_stands(&self.rt, self.root.as_str(), full.as_str())? {
+            return Ok(DiskRead::Absent);
+        }
+        let Some(data) = found_at(&self.rt, full.as_str())? else {
+            return Ok(DiskRead::Absent);
+        };
+        if data.is_dir() {
+            return Ok(DiskRead::Absent);
+        }
+        if !data.is_file() {
+            return Err(FileError::NoFile);
+        }
+        match read_file(&self.rt, alloc, full.as_str(), limit)? {
+            Content::Absent => Ok(DiskRead::Absent),
+            Content::TooLong => Ok(DiskRead::TooLong),
+            Content::Bytes(bytes) => Ok(DiskRead::File {
+                bytes: Items::from_vec(bytes),
+                exec: data.permissions().mode() & 0o100 != 0,
+            }),
+        }
+    }
+
+    /// Makes the file anew, in place of the file, the link or the folders without files that stand there.
+    pub fn put(&mut self, path: &RelPath, bytes: &[u8], exec: bool) -> Result<(), FileError> {
+        let full = path_below(self.alloc, self.root.as_str(), path.as_str())?;
+        self.make_folders(full.as_str())?;
+        self.loose.file_changed(full.as_str())?;
+        self.clear(full.as_str())?;
+        write_new(&self.rt, full.as_str(), bytes, exec)
+    }
+
+    /// Removes the file or the link at a path, if one is there, and then the folders above it that are empty, but for
+    /// the root.
+    pub fn remove(&mut self, path: &RelPath) -> Result<(), FileError> {
+        let full = path_below(self.alloc, self.root.as_str(), path.as_str())?;
+        // an earlier run may have removed it and not have synced
+        self.loose.file_changed(full.as_str())?;
+        if !way_stands(&self.rt, self.root.as_str(), full.as_str())? {
+            return Ok(());
+        }
+        match found_at(&self.rt, full.as_str())? {
+            Some(data) if !data.is_dir() => {
+                fs::remove_file(&self.rt, full.as_str())?;
+                self.drop_empty_above(full.as_str())
+            }
+            _ => Ok(()),
+        }
+    }
+
+    /// Makes all that was put and removed durable.
+    pub fn sync(&mut self) -> Result<(), FileError> {
+        self.loose.sync(&self.rt)
+    }
+
+    fn make_folders(&mut self, full: &str) -> Result<(), FileError> {
+        let mut made = Vec::new(self.alloc);
+        let outcome = make_way(&self.rt, self.alloc, self.root.as_str(), full, &mut made);
+        for folder in &made {
+            self.loose.folder_made(folder.as_str())?;
+        }
+        outcome
+    }
+
+    fn clear(&mut self, full: &str) -> Result<(), FileError> {
+        let Some(data) = found_at(&self.rt, full)? else {
+            return Ok(());
+        };
+        if !data.is_dir() {
+            fs::remove_file(&self.rt, full)?;
+            return Ok(());
+        }
+        match bare_folders(&self.rt, self.alloc, full)? {
+            Some(folders) => self.remove_folders(folders.as_slice()),
+            None => Err(FileError::NotEmpty),
+        }
+    }
+
+    // The last comes first.
+    fn remove_folders(&mut self, folders: &[String]) -> Result<(), FileError> {
+        for folder in folders.iter().rev() {
+            fs::remove_dir(&self.rt, folder.as_str())?;
+            self.loose.folder_gone(folder.as_str())?;
+        }
+        Ok(())
+    }
+
+    fn drop_empty_above(&mut self, full: &str) -> Result<(), FileError> {
+        let mut folder = folder_of(full);
+        for _ in 0..full.len() {
+            if folder.len() <= self.root.len() || fs::remove_dir(&self.rt, folder).is_err() {
+                break;
+            }
+            self.loose.folder_gone(folder)?;
+            folder = folder_of(folder);
+        }
+        Ok(())
+    }
+}
+
+// The lock, unless another open file has it.
+fn try_lock<R: Files<File = File>>(rt: &R, path: &str) -> Result<Option<File>, FileError> {
+    if let Some(data) = found_at(rt, path)?
+        && !data.is_file()
+    {
+        return Err(FileError::NoFile);
+    }
+    let file = OpenOptions::new().write(true).create(true).open(rt, path)?;
+    match file.try_lock() {
+        Ok(()) => Ok(Some(file)),
+        Err(TryLockError::WouldBlock) => Ok(None),
+        Err(TryLockError::Error(error)) => Err(FileError::Io(error)),
+    }
+}
+
+fn write_new<R: Files>(rt: &R, path: &str, bytes: &[u8], exec: bool) -> Result<(), FileError> {
+    let mode = if exec { 0o755 } else { 0o644 };
+    let mut file = OpenOptions::new()
+        .write(true)
+        .create_new(true)
+        .open(rt, path)?;
+    file.write_all(bytes)?;
+    file.set_permissions(Permissions::from_mode(mode))?;
+    Ok(())
+}

@@ -1,0 +1,7 @@
+use Rattle.std.proofs.Common.{refl}
+use Rattle.opam_names.proofs.Places.{text_goes_on}
+use Rattle.opam_names.proofs.paths.text_begins.Goals as goal
+
+pub returns-then-front-lt1024 : goal.returns-then-front-lt1024
+returns-then-front-lt1024 c =
+    ((λ t. text_goes_on c.args.front.now c.requires.text c.requires.no_zero c.requires.ends c.if-front-lt1024.true), λ b. refl)

@@ -1,0 +1,106 @@
+// Versions of packages.
+ghost use Rattle.std.specs.Prelude.{◌≡◌, ◌<◌, ◌^◌, ◌==◌, ◌↔◌, IfOk, IfErr, IsTrue, length, string_bytes};
+ghost use Rattle.std.specs.List.{list_all, take_while};
+ghost use Rattle.opam_names.specs.Names.{IsVersion, is_version_byte};
+ghost use Rattle.opam_names.specs.Faults.{IsFaultOf, IsLongestBegin};
+
+use crate::names::name_byte;
+use crate::{OutOfMemory, ReadFault};
+use std::alloc::Global;
+use std::marker::Model;
+
+/// The version of a package: a text of letters, digits, `-`, `_`, `+`, `.` and `~`, not empty, at most 120 bytes (opam
+/// manual, file format: version ordering).
+#[derive(Drop)]
+pub struct Version {
+    inner: String,
+}
+
+impl Model for Version {
+    ghost use Rattle.std.specs.Prelude.{ℕ, List, string_bytes};
+    ghost use Rattle.std.specs.Coded.{coded_list, coded_ℕ};
+    ghost use Rattle.opam_names.specs.Names.{IsVersion};
+
+    ghost Value = { List ℕ };
+
+    ghost coded = { coded_list coded_ℕ };
+
+    ghost view = { λ n. string_bytes n.inner };
+
+    ghost invariant = { λ n. IsVersion (string_bytes n.inner) };
+}
+
+impl Version {
+    pub fn read(alloc: Global, bytes: &[u8]) -> Result<Version, ReadFault>
+        requires { length bytes.now < 2 ^ 32 }
+        ensures ok { IfOk result (λ version. version ≡ bytes.now) }
+        ensures valid { IfOk result (λ version. IsVersion version) }
+        ensures err { IfErr result (λ fault. IsFaultOf IsVersion bytes.now fault) }
+    {
+        if !is_version(bytes) {
+            return Err(ReadFault::Bad {
+                at: version_end(bytes) as u32,
+            });
+        }
+        let Ok(text) = str::from_utf8(bytes) else {
+            unreachable!()
+        };
+        Ok(Version {
+            inner: String::from_str(alloc, text)?,
+        })
+    }
+
+    pub fn as_str(&self) -> &str
+        ensures value { result.now ≡ self.now }
+        ensures valid { IsVersion self.now }
+    {
+        self.inner.as_str()
+    }
+
+    pub fn copy(&self, alloc: Global) -> Result<Version, OutOfMemory>
+        ensures { IfOk result (λ version. version ≡ self.now) }
+    {
+        Ok(Version {
+            inner: String::from_str(alloc, self.inner.as_str())?,
+        })
+    }
+}
+
+fn version_byte(byte: u8) -> bool
+    ensures { result ≡ is_version_byte byte }
+{
+    name_byte(byte) || byte == b'.' || byte == b'~'
+}
+
+fn all_version_bytes(bytes: &[u8]) -> bool
+    ensures { result ≡ list_all is_version_byte bytes.now }
+{
+    bytes.iter().all(|b| version_byte(*b))
+}
+
+fn is_version(bytes: &[u8]) -> bool
+    ensures { IsTrue result ↔ IsVersion bytes.now }
+{
+    if !all_version_bytes(bytes) {
+        return false;
+    }
+    if bytes.is_empty() {
+        return false;
+    }
+    bytes.len() <= 120
+}
+
+// How many bytes of the front are those of versions.
+fn version_run(bytes: &[u8]) -> usize
+    ensures { result ≡ length (take_while is_version_byte bytes.now) }
+{
+    bytes.iter().take_while(|b| version_byte(**b)).count()
+}
+
+// The length of the longest front that begins a version.
+fn version_end(bytes: &[u8]) -> usize
+    ensures { IsLongestBegin IsVersion bytes.now result }
+{
+    let run = version_run(bytes);
+    if run < 120 { run } else { 120 }
+}

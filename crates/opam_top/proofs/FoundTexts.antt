@@ -1,0 +1,27 @@
+-- What is found of a file, and what is made of it.
+use Rattle.std.proofs.Common.{◌≡◌, ℕ, ◌≤◌, List, length, Bool, true, false, Option, Some, None, Result, refl, sym, ◌∙◌, ap, subst, arith, rules, nat_lt, if◌then◌else◌}
+use Rattle.std.specs.Prelude.{nat_le}
+use Rattle.std.proofs.lemmas.Bool.Decides.{nat_tests}
+use Rattle.outside_io.specs.Counts.{Files}
+use Rattle.outside_io.specs.Hosts.{IsFound}
+use Rattle.outside_io.specs.declared.host.Found.{Found}
+use Rattle.outside_io.specs.declared.host.Found.TheVariants.{Absent, Bytes, TooLong}
+use Rattle.opam_names.specs.declared.packages.Pkg.{Pkg}
+use Rattle.opam_top.specs.Fronts.{of_bound, of_lock, lock_limit}
+use Rattle.opam_top.specs.Locks.{read_lock}
+use Rattle.opam_top.specs.Refusals.{Gives}
+use Rattle.opam_top.specs.declared.stops.Stop.{Stop}
+
+-- what stands is what was found
+pub stood_bytes : (stood : Option (List ℕ)) (limit : ℕ) (found : Found) (bytes : List ℕ) → found ≡ Bytes bytes → IsFound stood limit found → stood ≡ Some bytes
+stood_bytes None limit found bytes is found_is = absurd (let e : Bytes bytes ≡ Absent = (sym is) ∙ found_is in cc)
+stood_bytes (Some file) limit found bytes is found_is =
+    let P : Found → Type 0 = λ f. IsFound (Some file) limit f in
+    let here : IsFound (Some file) limit (Bytes bytes) = subst P is found_is in ap (λ (l : List ℕ). Some l) (sym here.0)
+
+short_enough : (bytes : List ℕ) → length bytes ≤ lock_limit → nat_le (length bytes) lock_limit ≡ true
+short_enough bytes short = grind (arith, nat_tests)
+
+pub lock_of_bytes : (files : Files) (file : List ℕ) (stood : Option (List ℕ)) (bytes : List ℕ) (result : Result (Option Pkg) Stop) → stood ≡ Some bytes → length bytes ≤ lock_limit
+    → Gives (λ (pkg : Option Pkg). pkg) result (of_bound files (read_lock bytes)) → Gives (λ (pkg : Option Pkg). pkg) result (of_lock files file stood)
+lock_of_bytes files file stood bytes result is short gives = rw (is, short_enough bytes short) gives

@@ -1,0 +1,43 @@
+-- Refusals, and what an early end of a run rests on. This project's own.
+use Rattle.std.specs.Prelude.{◌≡◌, ◌≤◌, ℕ, List, [], ◌++◌, codes, Result, Ok, Err}
+use Rattle.outside_io.specs.Counts.{Rose}
+use Rattle.opam_top.specs.declared.status.Status.{Status}
+use Rattle.opam_top.specs.declared.status.Status.TheVariants as status
+use Rattle.opam_top.specs.declared.stops.Cause.{Cause}
+use Rattle.opam_top.specs.declared.stops.Cause.TheVariants.{NotFound, NotBuilt}
+use Rattle.opam_top.specs.declared.stops.Refusal.{Refusal}
+use Rattle.opam_top.specs.declared.stops.Stop.{Stop}
+use Rattle.opam_top.specs.declared.stops.Stop.TheVariants.{Host, Disk, Memory, Refused}
+
+abbrev pub status_of : Cause → Status
+status_of NotFound = status.NotFound
+status_of NotBuilt = status.NotBuilt
+
+-- what was asked for is not built yet
+abbrev pub not_built : Refusal
+not_built = record { cause = NotBuilt; err = codes "not built yet\n" }
+
+-- a file that is named by the words is absent
+abbrev pub not_found : List ℕ → Refusal
+not_found path = record { cause = NotFound; err = path ++ codes ": not found\n" }
+
+-- what a call that may end early gives, where the definition gives this
+abbrev pub Gives : {X Y : Type 0} → (X → Y) → Result X Stop → Result Y Refusal → Type 0
+Gives view (Ok x) answer = answer ≡ Ok (view x)
+Gives view (Err Host) answer = Unit {0}
+Gives view (Err Disk) answer = Unit {0}
+Gives view (Err Memory) answer = Unit {0}
+Gives view (Err (Refused refusal)) answer = answer ≡ Err refusal
+
+-- a call ends for a device only where its count rose, and the count rises only there
+pub record Causes {X : Type 0} (stop : Stop) (before now : ℕ) (result : Result X Stop) : Type 0 where
+  pub later : before ≤ now
+  pub rose : result ≡ Err stop → Rose before now
+  pub same : ¬ (result ≡ Err stop) → now ≡ before
+
+-- a stop is this refusal, unless it is for want of memory
+abbrev pub IsStopFor : Refusal → Stop → Type 0
+IsStopFor refusal Host = ⊥
+IsStopFor refusal Disk = ⊥
+IsStopFor refusal Memory = Unit {0}
+IsStopFor refusal (Refused given) = given ≡ refusal

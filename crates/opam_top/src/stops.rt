@@ -1,0 +1,92 @@
+// Early ends of a run.
+ghost use Rattle.std.specs.Prelude.{◌≡◌, ◌++◌, IfOk, codes, string_bytes};
+ghost use Rattle.opam_top.specs.declared.stops.Stop.TheVariants.{Memory};
+ghost use Rattle.opam_top.specs.Refusals.{IsStopFor, not_built, not_found, status_of};
+
+use crate::Status;
+use opam_names::{Items, OutOfMemory};
+use std::alloc::{AllocError, Global};
+
+/// Why a run is refused.
+#[derive(Clone, Copy, Debug, PartialEq, Eq)]
+pub enum Cause {
+    NotFound,
+    NotBuilt,
+}
+
+impl Cause {
+    pub fn status(self) -> Status
+        ensures { result ≡ status_of self }
+    {
+        match self {
+            Cause::NotFound => Status::NotFound,
+            Cause::NotBuilt => Status::NotBuilt,
+        }
+    }
+}
+
+/// A refused run: why, and what is said of it on standard error.
+#[derive(Drop)]
+pub struct Refusal {
+    pub cause: Cause,
+    pub err: Items<u8>,
+}
+
+/// Why a run ends early: a device failed, memory was refused, or the run is refused.
+#[derive(Drop)]
+pub enum Stop {
+    Host,
+    Disk,
+    Memory,
+    Refused(Refusal),
+}
+
+impl From<OutOfMemory> for Stop {
+    ghost from_gives = { λ _ e. e ≡ Memory };
+
+    fn from(_: OutOfMemory) -> Self {
+        Stop::Memory
+    }
+}
+
+impl From<AllocError> for Stop {
+    ghost from_gives = { λ _ e. e ≡ Memory };
+
+    fn from(_: AllocError) -> Self {
+        Stop::Memory
+    }
+}
+
+// The refusal of what is not built.
+pub fn stop_not_built(alloc: Global) -> Stop
+    ensures { IsStopFor not_built result }
+{
+    stop_with(alloc, Cause::NotBuilt, b"not built yet\n")
+}
+
+// The refusal of a file that is absent.
+pub fn stop_not_found(alloc: Global, path: &str) -> Stop
+    ensures { IsStopFor (not_found path.now) result }
+{
+    match text_of_absent(alloc, path) {
+        Ok(text) => stop_with(alloc, Cause::NotFound, text.as_bytes()),
+        Err(OutOfMemory) => Stop::Memory,
+    }
+}
+
+fn text_of_absent(alloc: Global, path: &str) -> Result<String, OutOfMemory>
+    ensures { IfOk result (λ text. string_bytes text ≡ path.now ++ codes ": not found\n") }
+{
+    let mut text = String::from_str(alloc, path)?;
+    text.push_str(": not found\n")?;
+    Ok(text)
+}
+
+fn stop_with(alloc: Global, cause: Cause, err: &[u8]) -> Stop
+    ensures { IsStopFor (record { cause = cause; err = err.now }) result }
+{
+    match Items::from_slice(alloc, err) {
+        Ok(err) => Stop::Refused(Refusal { cause, err }),
+        Err(OutOfMemory) => Stop::Memory,
+    }
+}

@@ -1,0 +1,3 @@
+pub mod Tellings
+pub mod Tells
+pub mod Well

@@ -1,0 +1,6 @@
+pub mod Counts
+pub mod Hosts
+pub mod Memories
+pub mod Scripts
+pub mod Shops
+pub mod Sinks
