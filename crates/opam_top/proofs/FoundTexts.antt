@@ -1,13 +1,12 @@
 -- What is found of a file, and what is made of it.
-use Rattle.std.proofs.Common.{◌≡◌, ℕ, ◌≤◌, List, length, Bool, true, false, Option, Some, None, Result, refl, sym, ◌∙◌, ap, subst, arith, rules, nat_lt, if◌then◌else◌}
+use Rattle.std.proofs.Common.{◌≡◌, ℕ, ◌≤◌, List, length, true, Option, Some, None, Result, sym, ◌∙◌, ap, subst, arith}
 use Rattle.std.specs.Prelude.{nat_le}
 use Rattle.std.proofs.lemmas.Bool.Decides.{nat_tests}
-use Rattle.outside_io.specs.Counts.{Files}
 use Rattle.outside_io.specs.Hosts.{IsFound}
 use Rattle.outside_io.specs.declared.host.Found.{Found}
-use Rattle.outside_io.specs.declared.host.Found.TheVariants.{Absent, Bytes, TooLong}
+use Rattle.outside_io.specs.declared.host.Found.TheVariants.{Absent, Bytes}
 use Rattle.opam_names.specs.declared.packages.Pkg.{Pkg}
-use Rattle.opam_top.specs.Fronts.{of_bound, of_lock, lock_limit}
+use Rattle.opam_top.specs.Fronts.{bound_in_lock, if_built, lock_limit, of_package}
 use Rattle.opam_top.specs.Locks.{read_lock}
 use Rattle.opam_top.specs.Refusals.{Gives}
 use Rattle.opam_top.specs.declared.stops.Stop.{Stop}
@@ -22,6 +21,10 @@ stood_bytes (Some file) limit found bytes is found_is =
 short_enough : (bytes : List ℕ) → length bytes ≤ lock_limit → nat_le (length bytes) lock_limit ≡ true
 short_enough bytes short = grind (arith, nat_tests)
 
-pub lock_of_bytes : (files : Files) (file : List ℕ) (stood : Option (List ℕ)) (bytes : List ℕ) (result : Result (Option Pkg) Stop) → stood ≡ Some bytes → length bytes ≤ lock_limit
-    → Gives (λ (pkg : Option Pkg). pkg) result (of_bound files (read_lock bytes)) → Gives (λ (pkg : Option Pkg). pkg) result (of_lock files file stood)
-lock_of_bytes files file stood bytes result is short gives = rw (is, short_enough bytes short) gives
+pub lock_of_bytes : (file : List ℕ) (stood : Option (List ℕ)) (bytes : List ℕ) (result : Result (Option Pkg) Stop) → stood ≡ Some bytes → length bytes ≤ lock_limit
+    → Gives (λ (pkg : Option Pkg). pkg) result (if_built (read_lock bytes)) → Gives (λ (pkg : Option Pkg). pkg) result (bound_in_lock file stood)
+lock_of_bytes file stood bytes result is short gives = rw (is, short_enough bytes short) gives
+
+pub package_of_bytes : (pkg : Pkg) (stood : Option (List ℕ)) (bytes : List ℕ) (result : Result (Option Pkg) Stop) → stood ≡ Some bytes
+    → Gives (λ (pkg : Option Pkg). pkg) result (of_package pkg (Some bytes)) → Gives (λ (pkg : Option Pkg). pkg) result (of_package pkg stood)
+package_of_bytes pkg stood bytes result is gives = rw is gives

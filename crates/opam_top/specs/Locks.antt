@@ -1,9 +1,9 @@
 -- Lock files, as far as they are built (opam manual, lock files): an empty one, or the canonical spelling of a field
 -- `depends` with a list of at most one package at a version. A last newline may be missing.
-use Rattle.std.specs.Prelude.{◌≡◌, ◌⊎◌, ℕ, List, [], ◌∷◌, ◌++◌, Bool, codes, ◌&&◌, if◌then◌else◌}
+use Rattle.std.specs.Prelude.{ℕ, List, [], ◌∷◌, ◌++◌, codes, ◌&&◌, if◌then◌else◌}
 use Rattle.std.specs.declared.option.Option.{Option}
 use Rattle.std.specs.declared.option.Option.TheVariants.{None, Some}
-use Rattle.opam_names.specs.Names.{IsName, IsVersion, is_name, is_version}
+use Rattle.opam_names.specs.Names.{is_name, is_version}
 use Rattle.opam_names.specs.declared.packages.Pkg.{Pkg}
 use Rattle.opam_top.specs.Spellings.{is_spelled, quoted}
 

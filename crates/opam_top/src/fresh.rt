@@ -21,7 +21,7 @@ pub fn are_absent<D: Disk>(disk: &mut D, one: &RelPath, other: &RelPath) -> Resu
 }
 
 // Whether nothing stands at the path, nor below it.
-fn is_absent<D: Disk>(disk: &mut D, path: &RelPath) -> Result<bool, Failed>
+pub fn is_absent<D: Disk>(disk: &mut D, path: &RelPath) -> Result<bool, Failed>
     ensures cause { Counted (D.faults disk.old) (D.faults disk.new) result }
     ensures held { D.held disk.new ≡ D.held disk.old }
     ensures same { D.told disk.new ≡ D.told disk.old }

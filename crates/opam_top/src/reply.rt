@@ -2,8 +2,8 @@
 ghost use Rattle.std.specs.Prelude.{◌≡◌, []};
 ghost use Rattle.opam_top.specs.Answers.{by_stop, nothing_done, IsReplyOf};
 
-use crate::Status;
 use crate::stops::Stop;
+use crate::{Receipt, Status};
 use opam_names::{Items, Pkg};
 use outside_io::Fate;
 use std::alloc::Global;
@@ -71,4 +71,11 @@ pub fn reply_to_nothing(alloc: Global) -> Reply
         b"done: 0 installed, 0 removed, 0 failed, 0 aborted\n",
         b"",
     )
+}
+
+/// A reply, and the receipts of what was committed.
+#[derive(Drop)]
+pub struct Ran {
+    pub reply: Reply,
+    pub receipts: Items<Receipt>,
 }

@@ -1,10 +1,11 @@
 // Early ends of a run.
 ghost use Rattle.std.specs.Prelude.{◌≡◌, ◌++◌, IfOk, codes, string_bytes};
+ghost use Rattle.opam_names.specs.Packages.{pkg_text};
 ghost use Rattle.opam_top.specs.declared.stops.Stop.TheVariants.{Memory};
-ghost use Rattle.opam_top.specs.Refusals.{IsStopFor, not_built, not_found, status_of};
+ghost use Rattle.opam_top.specs.Refusals.{IsStopFor, not_built, not_found, not_in_repository, status_of};
 
 use crate::Status;
-use opam_names::{Items, OutOfMemory};
+use opam_names::{Items, OutOfMemory, Pkg};
 use std::alloc::{AllocError, Global};
 
 /// Why a run is refused.
@@ -72,6 +73,24 @@ pub fn stop_not_found(alloc: Global, path: &str) -> Stop
         Ok(text) => stop_with(alloc, Cause::NotFound, text.as_bytes()),
         Err(OutOfMemory) => Stop::Memory,
     }
+}
+
+// The refusal of a package that has no opam file.
+pub fn stop_not_in_repository(alloc: Global, pkg: &Pkg) -> Stop
+    ensures { IsStopFor (not_in_repository pkg.now) result }
+{
+    match text_of_unknown(alloc, pkg) {
+        Ok(text) => stop_with(alloc, Cause::NotFound, text.as_bytes()),
+        Err(OutOfMemory) => Stop::Memory,
+    }
+}
+
+fn text_of_unknown(alloc: Global, pkg: &Pkg) -> Result<String, OutOfMemory>
+    ensures { IfOk result (λ text. string_bytes text ≡ pkg_text pkg.now ++ codes ": not in the repository\n") }
+{
+    let mut text = pkg.print(alloc)?;
+    text.push_str(": not in the repository\n")?;
+    Ok(text)
 }
 
 fn text_of_absent(alloc: Global, path: &str) -> Result<String, OutOfMemory>

@@ -1,7 +1,7 @@
 // A sink that is told all of each piece, until it fails.
-ghost use Rattle.std.specs.Prelude.{◌≡◌, ◌≤◌, ◌++◌, true, false};
+ghost use Rattle.std.specs.Prelude.{◌≡◌, ◌≤◌, true, false};
 ghost use Rattle.std.specs.Bool.{OnTrue, OnFalse};
-ghost use Rattle.outside_io.specs.Counts.{Quiet, Rose};
+ghost use Rattle.outside_io.specs.Counts.{Rose};
 ghost use Rattle.outside_io.specs.Sinks.{Got, GotPrefix};
 
 use crate::Sink;

@@ -15,7 +15,7 @@ struct Row<'a> {
     words: &'a [&'a str],
     files: &'a [(&'a str, &'a str)],
     disk: &'a [(&'a str, &'a str)],
-    built: &'a [(&'a str, Option<&'a str>)],
+    built: &'a [(&'a str, &'a str)],
     prepared: bool,
     host_fails: &'a [u64],
     disk_fails: &'a [u64],
@@ -30,7 +30,7 @@ struct Row<'a> {
 }
 
 // The words install the lock `l`, nothing stands anywhere, and no device fails.
-fn plain(name: &'static str) -> Row<'static> {
+fn plain(name: &str) -> Row<'_> {
     Row {
         name,
         words: &["install", "--lock-file", "l"],
@@ -95,11 +95,8 @@ fn disk_of(alloc: Global, row: &Row) -> Result<MemoryDisk, Fail> {
 fn script_of(alloc: Global, row: &Row) -> Result<Script, Fail> {
     let mut files = Items::new(alloc);
     for (path, text) in row.built {
-        let content = match text {
-            Some(text) => Some(Items::from_slice(alloc, text.as_bytes())?),
-            None => None,
-        };
-        files.push((Text::from_str(alloc, path)?, content))?;
+        let content = Items::from_slice(alloc, text.as_bytes())?;
+        files.push((Text::from_str(alloc, path)?, Some(content)))?;
     }
     let mut endings = Items::new(alloc);
     if !row.prepared {
@@ -305,6 +302,171 @@ fn runs_that_are_not_built(rt: HostRuntime) -> Result<(), Fail> {
             status: 70,
             err: "not built yet\n",
             ..plain("")
+        };
+        run_row(&rt, &row)?;
+    }
+    Ok(())
+}
+
+const LOCK: &str = "depends: [\"a\" {= \"1\"}]\n";
+
+const OPAM: &str = "opam-version: \"2.0\"\n";
+
+const OPAM_PATH: &str = "./packages/a/a.1/opam";
+
+const INSTALLED: &str = "installed a.1\ndone: 1 installed, 0 removed, 0 failed, 0 aborted\n";
+
+// The 58 bytes of the record of a.1 with one file.
+const RECORD: &str =
+    "OPAMREC1\x01\0\x01a\0\x011\0\0\0\x14opam-version: \"2.0\"\n\0\0\0\x01\x01\0\x05bin/x\0\0\0\x03hi\n";
+
+// a.1 places `bin/x`.
+fn one_package(name: &str) -> Row<'_> {
+    Row {
+        files: &[("l", LOCK), (OPAM_PATH, OPAM)],
+        built: &[("a.install", "bin: [\"x\"]\n"), ("x", "hi\n")],
+        ..plain(name)
+    }
+}
+
+#[test]
+fn runs_of_one_package(rt: HostRuntime) -> Result<(), Fail> {
+    assert_eq!(rt; RECORD.len(), 58);
+    let rows = [
+        Row {
+            out: INSTALLED,
+            heard: 1,
+            receipts: 1,
+            left: &[
+                ("bin/x", "hi\n", true),
+                (".opam-switch/journal/rec/1", RECORD, false),
+                (".opam-switch/journal/gate/1", "ok\n", false),
+            ],
+            gone: &[".opam-switch/journal/gate/2", ".opam-switch/journal/rec/2"],
+            ..one_package("one package with one file")
+        },
+        Row {
+            built: &[],
+            out: INSTALLED,
+            heard: 1,
+            receipts: 1,
+            left: &[(".opam-switch/journal/gate/1", "ok\n", false)],
+            gone: &["bin/x", ".opam-switch/journal/gate/2"],
+            ..one_package("one package without an install text")
+        },
+        Row {
+            built: &[
+                ("a.install", "bin: [\"y\" \"x\"]"),
+                ("x", "hi\n"),
+                ("y", ""),
+            ],
+            disk: &[("bin/z", "mine"), (".opam-switch/journal/gate/2", "ok\n")],
+            out: INSTALLED,
+            heard: 1,
+            receipts: 1,
+            left: &[
+                ("bin/x", "hi\n", true),
+                ("bin/y", "", true),
+                ("bin/z", "mine", false),
+            ],
+            gone: &[".opam-switch/journal/gate/2"],
+            ..one_package("two files beside another's, and an old gate")
+        },
+        Row {
+            files: &[("l", LOCK)],
+            status: 5,
+            err: "a.1: not in the repository\n",
+            ..one_package("a package that is not in the repository")
+        },
+        Row {
+            host_fails: &[2],
+            status: 40,
+            err: "host fault\n",
+            gone: &[".opam-switch/journal/rec/1"],
+            ..one_package("a host that fails at the second read")
+        },
+        Row {
+            out_fails: &[1],
+            status: 42,
+            err: "output fault\n",
+            heard: 1,
+            receipts: 1,
+            left: &[("bin/x", "hi\n", true)],
+            ..one_package("an output that fails after the commit")
+        },
+    ];
+    for row in &rows {
+        run_row(&rt, row)?;
+    }
+    Ok(())
+}
+
+#[test]
+fn packages_that_are_not_built(rt: HostRuntime) -> Result<(), Fail> {
+    let rows = [
+        Row {
+            prepared: false,
+            ..one_package("a build folder that is not prepared")
+        },
+        Row {
+            built: &[("a.install", "lib: [\"x\"]\n"), ("x", "hi\n")],
+            ..one_package("another section")
+        },
+        Row {
+            built: &[("a.install", "bin: [\"../x\"]\n"), ("x", "hi\n")],
+            ..one_package("a path out of the folder")
+        },
+        Row {
+            built: &[("a.install", "bin: [\"x\"]\n")],
+            ..one_package("a source that is missing")
+        },
+        Row {
+            built: &[("a.install", "bin: [\"x\" \"x\"]\n"), ("x", "hi\n")],
+            ..one_package("one file twice")
+        },
+        Row {
+            disk: &[("bin/x", "mine")],
+            left: &[("bin/x", "mine", false)],
+            ..one_package("a foreign file at the place")
+        },
+        Row {
+            disk: &[("bin", "mine")],
+            left: &[("bin", "mine", false)],
+            ..one_package("a foreign file above the place")
+        },
+        Row {
+            disk: &[("bin/x/y", "mine")],
+            left: &[("bin/x/y", "mine", false)],
+            ..one_package("a foreign file below the place")
+        },
+    ];
+    for row in &rows {
+        let row = Row {
+            built: row.built,
+            prepared: row.prepared,
+            disk: row.disk,
+            left: row.left,
+            status: 70,
+            err: "not built yet\n",
+            heard: 1,
+            gone: &[".opam-switch/journal/rec/1", ".opam-switch/journal/gate/1"],
+            ..one_package(row.name)
+        };
+        run_row(&rt, &row)?;
+    }
+    Ok(())
+}
+
+#[test]
+fn a_disk_that_fails_at_each_call(rt: HostRuntime) -> Result<(), Fail> {
+    for call in 1..12 {
+        let row = Row {
+            disk: &[("bin/z", "mine"), ("x", "mine")],
+            disk_fails: &[call],
+            status: 41,
+            err: "disk fault\n",
+            left: &[("bin/z", "mine", false), ("x", "mine", false)],
+            ..one_package("a disk that fails at one call")
         };
         run_row(&rt, &row)?;
     }

@@ -1,4 +1,4 @@
-use Rattle.std.proofs.Common.{◌≡◌, ◌+◌, ap, length, sym, ◌∙◌, arith, length-drop}
+use Rattle.std.proofs.Common.{◌+◌, ap, length, sym, ◌∙◌, arith, length-drop}
 use Rattle.opam_top.specs.Spellings.{before_quote}
 use Rattle.opam_top.proofs.Quotes.{quoted_step, quoted_end, after_quote-shorter}
 use Rattle.opam_top.proofs.spelling.quoted_texts.Goals as goal
