@@ -3,7 +3,6 @@
 # Usage: bench/start.sh [RUNS]
 set -eu
 top=$(cd "$(dirname "$0")/.." && pwd)
-program=$top/crates/opam_main/out/opam_main
 runs=${1:-100}
 
 for tool in rt python3 /usr/bin/time /bin/true; do
@@ -13,14 +12,7 @@ for tool in rt python3 /usr/bin/time /bin/true; do
     fi
 done
 
-# `rt run` builds the program and then runs it, here with no words, on which it does nothing.
-rm -f "$program"
-(cd "$top/crates/opam_main" && rt run) >/dev/null 2>&1 </dev/null || true
-if [ ! -x "$program" ]; then
-    echo "bench/start.sh: opam_main is not built: see what 'rt run' says in crates/opam_main" >&2
-    exit 1
-fi
-
+program=$(sh "$top/examples/program.sh")
 exec python3 - "$program" "$runs" <<'PYTHON'
 import os
 import statistics
