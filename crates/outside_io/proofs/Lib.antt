@@ -1,3 +1,4 @@
+pub mod LeastFates
 pub mod Tellings
 pub mod Tells
 pub mod Well

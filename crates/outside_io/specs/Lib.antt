@@ -1,4 +1,5 @@
 pub mod Counts
+pub mod Fates
 pub mod Hosts
 pub mod Memories
 pub mod Scripts

@@ -16,4 +16,4 @@ pub use memory_sink::MemorySink;
 pub use script_shop::{Script, ScriptShop};
 pub use sink::{Failed, Sink};
 pub use teller::Teller;
-pub use workshop::{Ending, Fate, Job, Seen, Workshop};
+pub use workshop::{Ending, Fate, Job, Seen, Workshop, fates_are_least};

@@ -1,6 +1,7 @@
 // Where packages are built.
 ghost use Rattle.std.specs.Prelude.{◌≡◌, ◌≤◌, IfOk, length};
 ghost use Rattle.std.specs.declared.option.Option.{Option};
+ghost use Rattle.outside_io.specs.Fates.{FatesAreLeast};
 
 use opam_names::{Items, OutOfMemory, Pkg, RelPath, Text};
 use std::alloc::Global;
@@ -13,6 +14,59 @@ pub struct Job {
     pub source: Option<Text>,
     pub commands: Items<Items<Text>>,
     pub env: Items<(Text, Text)>,
+}
+
+impl Job {
+    /// The same job, in memory of its own.
+    pub fn copy(&self, alloc: Global) -> Result<Job, OutOfMemory>
+        ensures { IfOk result (λ job. job ≡ self.now) }
+    {
+        Ok(Job {
+            pkg: self.pkg.copy(alloc)?,
+            source: copy_source(alloc, &self.source)?,
+            commands: copy_commands(alloc, self.commands.as_slice())?,
+            env: copy_env(alloc, self.env.as_slice())?,
+        })
+    }
+}
+
+fn copy_source(alloc: Global, source: &Option<Text>) -> Result<Option<Text>, OutOfMemory>
+    ensures { IfOk result (λ copy. copy ≡ source.now) }
+{
+    match source {
+        None => Ok(None),
+        Some(folder) => Ok(Some(folder.copy(alloc)?)),
+    }
+}
+
+fn copy_commands(alloc: Global, commands: &[Items<Text>]) -> Result<Items<Items<Text>>, OutOfMemory>
+    ensures { IfOk result (λ copy. copy ≡ commands.now) }
+{
+    let mut copies = Items::new(alloc);
+    for words in commands {
+        copies.push(copy_words(alloc, words.as_slice())?)?;
+    }
+    Ok(copies)
+}
+
+fn copy_words(alloc: Global, words: &[Text]) -> Result<Items<Text>, OutOfMemory>
+    ensures { IfOk result (λ copy. copy ≡ words.now) }
+{
+    let mut copies = Items::new(alloc);
+    for word in words {
+        copies.push(word.copy(alloc)?)?;
+    }
+    Ok(copies)
+}
+
+fn copy_env(alloc: Global, env: &[(Text, Text)]) -> Result<Items<(Text, Text)>, OutOfMemory>
+    ensures { IfOk result (λ copy. copy ≡ env.now) }
+{
+    let mut copies = Items::new(alloc);
+    for (name, value) in env {
+        copies.push((name.copy(alloc)?, value.copy(alloc)?))?;
+    }
+    Ok(copies)
 }
 
 /// How a step of a job ended.
@@ -65,3 +119,8 @@ pub trait Workshop {
     ) -> Result<Seen, OutOfMemory>
         ensures told { ReadTells (told self.now) job.now path.now limit result };
 }
+
+/// A job stops at its first step that does not end in `Exit(0)`, and is built where each step does.
+pub fn fates_are_least()
+    ensures { FatesAreLeast }
+{}
