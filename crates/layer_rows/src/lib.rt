@@ -7,3 +7,5 @@ mod crews;
 mod devices;
 #[cfg(test)]
 mod names;
+#[cfg(test)]
+mod reports;
