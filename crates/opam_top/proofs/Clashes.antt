@@ -1,22 +1,29 @@
 -- Which files of a tree stand in the way of a file below `bin`.
-use Rattle.std.proofs.Common.{◌≡◌, ◌≢◌, ◌⊎◌, inl, inr, ℕ, List, [], ◌∷◌, ◌++◌, take, drop, length, Bool, true, false, not, cond, IsSome, Option, Some, None, refl, sym, ◌∙◌, ap, subst, arith}
-use Rattle.std.specs.Prelude.{bytes_eq, codes, is_some, ◌==◌, ◌&&◌, ◌||◌}
-use Rattle.std.specs.List.{list_all, list_any}
-use Rattle.std.specs.FinMap.{get, keys}
+use Rattle.std.proofs.Common.{◌≡◌, ◌≢◌, ◌⊎◌, inl, inr, ℕ, ◌+◌, ◌<◌, List, [], ◌∷◌, ◌++◌, take, drop, get_or, length, Bool, true, false, not, cond, IsSome, Option, Some, None, refl, sym, ◌∙◌, ap, arith}
+use Rattle.std.specs.Prelude.{bytes_eq, codes, is_none, is_some, ◌==◌, ◌&&◌, ◌||◌}
+use Rattle.std.specs.List.{list_all}
+use Rattle.std.specs.FinMap.{get, insert}
 use Rattle.std.proofs.lemmas.Bool.Decides.{nat_tests}
-use Rattle.std.proofs.lemmas.List.{take-append-drop}
+use Rattle.std.proofs.lemmas.List.{drop_more, take-append-drop, take_more}
 use Rattle.std.proofs.lemmas.Slice.Eq.{bytes_eq-Decides}
 use Rattle.opam_names.specs.Paths.{is_above, is_more_after_slash}
-use Rattle.opam_top.proofs.Tests.{both_left, both_right}
-use Rattle.crash_disk.specs.Disks.{Tree, IsLook}
-use Rattle.crash_disk.specs.declared.disk.Look.{Look}
-use Rattle.crash_disk.specs.declared.disk.Look.TheVariants as look
+use Rattle.opam_names.specs.declared.packages.Pkg.{Pkg}
+use Rattle.action_report.specs.declared.decision.Reason.{Reason}
+use Rattle.action_report.specs.declared.decision.Reason.TheVariants.{Owned}
+use Rattle.outside_io.specs.Counts.{ByPath}
+use Rattle.opam_top.proofs.Tests.{both, both_left, both_right}
+use Rattle.crash_disk.specs.Disks.{Tree}
 use Rattle.opam_top.specs.InstallTexts.{is_item, is_item_byte}
+use Rattle.opam_top.specs.Commits.{is_among, paths_differ}
 use Rattle.opam_top.specs.Journals.{stands}
-use Rattle.opam_top.specs.Placements.{all_absent, are_apart, are_free, bin_path, has_no_file, looks_fileless, is_bin_path, is_free, is_in_bin, meets}
+use Rattle.opam_top.specs.Owners.{is_unowned}
+use Rattle.opam_top.specs.Installs.{is_vacant}
+use Rattle.opam_top.specs.Placements.{bin_path, first_clash, first_of, in_the_way, is_bin_path, is_in_bin, meets, meets_foreign, way_barred}
+use Rattle.opam_top.specs.Switches.{with_owner}
 use Rattle.opam_top.specs.declared.records.Placed.{Placed}
 use Rattle.opam_top.proofs.ItemPaths.{item_bytes, item_byte_no_slash}
 use Rattle.opam_top.proofs.Keys.{any_key, some_key}
+use Rattle.opam_top.proofs.Owned.{OwnsInBin, owner_last, unowned_before}
 
 abbrev bin : List ℕ
 bin = codes "bin"
@@ -29,7 +36,7 @@ second_of_two : (a b : Bool) → b ≡ true → (a || b) ≡ true
 second_of_two true b is = refl
 second_of_two false b is = is
 
-one_of_two : (a b : Bool) → (a || b) ≡ true → (a ≡ true) ⊎ (b ≡ true)
+pub one_of_two : (a b : Bool) → (a || b) ≡ true → (a ≡ true) ⊎ (b ≡ true)
 one_of_two true b is = inl refl
 one_of_two false b is = inr is
 
@@ -52,7 +59,7 @@ none_above (x ∷ xs) [] is = refl
 none_above (x ∷ xs) (b ∷ bytes) is = neither (x == b) (is_above xs bytes) (none_above xs bytes (both_right (is_item_byte b) (list_all is_item_byte bytes) is))
 
 -- one byte on
-same_first : (x y : ℕ) (xs ys : List ℕ) → is_above (x ∷ xs) (y ∷ ys) ≡ true → x ≡ y
+pub same_first : (x y : ℕ) (xs ys : List ℕ) → is_above (x ∷ xs) (y ∷ ys) ≡ true → x ≡ y
 same_first x y xs ys is = grind (arith, nat_tests)
 
 above_rest : (same above : Bool) → (cond same above false) ≡ true → above ≡ true
@@ -89,12 +96,12 @@ bin_above (b ∷ bytes) is = refl
 item_of : (path : List ℕ) → is_bin_path path ≡ true → is_item (drop 4 path) ≡ true
 item_of path is = both_right (bytes_eq (take 4 path) (codes "bin/")) (is_item (drop 4 path)) is
 
-whole_path : (path : List ℕ) → is_bin_path path ≡ true → path ≡ bin_path (drop 4 path)
+pub whole_path : (path : List ℕ) → is_bin_path path ≡ true → path ≡ bin_path (drop 4 path)
 whole_path path is =
     let begins : take 4 path ≡ codes "bin/" = (bytes_eq-Decides (take 4 path) (codes "bin/")).0 (both_left (bytes_eq (take 4 path) (codes "bin/")) (is_item (drop 4 path)) is) in
     sym (take-append-drop 4 path) ∙ ap (λ (l : List ℕ). l ++ drop 4 path) begins
 
-above_path : (q path : List ℕ) → is_bin_path path ≡ true → is_above q path ≡ true → q ≡ bin
+pub above_path : (q path : List ℕ) → is_bin_path path ≡ true → is_above q path ≡ true → q ≡ bin
 above_path q path is above =
     above_item q (drop 4 path) (item_bytes (drop 4 path) (item_of path is)) (ap (is_above q) (sym (whole_path path is)) ∙ above)
 
@@ -135,57 +142,146 @@ meets_below path q is apart meet =
 apart_from_bin : (files : Tree) (q : List ℕ) → get files bin ≡ None → IsSome (get files q) → q ≢ bin
 apart_from_bin files q none some is = not_there (get files q) (ap (get files) is ∙ none) some
 
-both_by : (a b : Bool) → (a ≡ true → b ≡ true) → (b ≡ true → a ≡ true) → a ≡ b
+pub both_by : (a b : Bool) → (a ≡ true → b ≡ true) → (b ≡ true → a ≡ true) → a ≡ b
 both_by true b there back = sym (there refl)
 both_by false true there back = back refl
 both_by false false there back = refl
 
--- without a file at `bin`, only those at the path or below it meet it
-pub free_by_stands : (files : Tree) (path : List ℕ) → get files bin ≡ None → is_bin_path path ≡ true → not (stands files path) ≡ is_free files path
-free_by_stands files path none is =
-    ap not (both_by (stands files path) (list_any (meets path) (keys files))
-    (λ at. let found = any_key files (at_or_below path) at in some_key files (meets path) found.0 found.2 (below_meets path found.0 found.1))
-    (λ at. let found = any_key files (meets path) at in some_key files (at_or_below path) found.0 found.2 (meets_below path found.0 is (apart_from_bin files found.0 none found.2) found.1)))
+-- ---- what nobody owns
+bin_no_path : is_bin_path bin ≡ false
+bin_no_path = refl
 
--- a file at `bin` meets each
-pub clash_at_bin : (files : Tree) (path : List ℕ) → IsSome (get files bin) → is_bin_path path ≡ true → is_free files path ≡ false
-clash_at_bin files path there is =
-    ap not (some_key files (meets path) bin there (second_of_two (bytes_eq path bin || is_above path bin) (is_above bin path) (bin_above_path path is)))
+none_by : {X : Type 0} (o : Option X) → (IsSome o → ⊥) → o ≡ None
+none_by None apart = refl
+none_by (Some x) apart = absurd (apart refl)
 
-all_free : (tree : Tree) → get tree bin ≡ None → (files : List Placed) → list_all is_in_bin files ≡ true → all_absent tree files ≡ list_all (λ file. is_free tree file.path) files
-all_free tree none [] is = refl
-all_free tree none (file ∷ files) is =
-    let first = free_by_stands tree file.path none (both_left (is_in_bin file) (list_all is_in_bin files) is) in
-    let later = all_free tree none files (both_right (is_in_bin file) (list_all is_in_bin files) is) in
-    ap (λ b. b && all_absent tree files) first ∙ ap (λ b. is_free tree file.path && b) later
+nobody : {X : Type 0} (o : Option X) → o ≡ None → is_none o ≡ true
+nobody o is = ap (λ (l : Option _). is_none l) is
 
-no_file : {X : Type 0} (o : Option X) → true ≡ not (is_some o) → o ≡ None
-no_file None is = refl
-no_file (Some x) is = absurd (cc)
+not_in_bin : (q : List ℕ) → q ≡ bin → is_bin_path q ≡ true → ⊥
+not_in_bin q is in_bin = let e : is_bin_path q ≡ false = ap is_bin_path is in cc
 
-some_file : {X : Type 0} (o : Option X) → false ≡ not (is_some o) → IsSome o
-some_file None is = absurd (cc)
-some_file (Some x) is = refl
+bin_unowned : (owners : ByPath Pkg) → OwnsInBin owners → get owners bin ≡ None
+bin_unowned owners all = none_by (get owners bin) (λ some. not_in_bin bin refl (all bin some))
 
-pub free_in_folder : (tree : Tree) (folder : List ℕ) (files : List Placed) → folder ≡ bin → list_all is_in_bin files ≡ true → true ≡ has_no_file tree folder
-    → (all_absent tree files && are_apart files) ≡ are_free tree files
-free_in_folder tree folder files is all none =
-    ap (λ b. b && are_apart files) (all_free tree (ap (get tree) (sym is) ∙ no_file (get tree folder) none) files all)
+-- no such path stands below another
+below_unowned : (owners : ByPath Pkg) (path q : List ℕ) → OwnsInBin owners → is_bin_path path ≡ true → is_above path q ≡ true → get owners q ≡ None
+below_unowned owners path q all is below = none_by (get owners q) (λ some. not_in_bin path (above_path path q (all q some) below) is)
 
-pub clash_in_folder : (tree : Tree) (folder : List ℕ) (files : List Placed) → folder ≡ bin → list_all is_in_bin files ≡ true → false ≡ (length files == 0) → false ≡ has_no_file tree folder
-    → false ≡ are_free tree files
-clash_in_folder tree folder [] is all some there = absurd (cc)
-clash_in_folder tree folder (file ∷ files) is all some there =
-    let at : IsSome (get tree bin) = subst (λ (p : List ℕ). IsSome (get tree p)) is (some_file (get tree folder) there) in
-    let clash = clash_at_bin tree file.path at (both_left (is_in_bin file) (list_all is_in_bin files) all) in
-    sym (ap (λ b. (b && list_all (λ other. is_free tree other.path) files) && are_apart (file ∷ files)) clash)
+at_unowned : (owners : ByPath Pkg) (path q : List ℕ) → get owners path ≡ None → bytes_eq q path ≡ true → get owners q ≡ None
+at_unowned owners path q none same = ap (get owners) ((bytes_eq-Decides q path).0 same) ∙ none
 
--- what a look says of a file at the path
-none_seen : {X : Type 0} (o : Option X) → o ≡ None → true ≡ not (is_some o)
-none_seen None is = refl
-none_seen (Some x) is = absurd (cc)
+around_unowned : (owners : ByPath Pkg) (path q : List ℕ) → OwnsInBin owners → is_bin_path path ≡ true → get owners path ≡ None → at_or_below path q ≡ true → get owners q ≡ None
+around_unowned owners path q all is none at =
+    elim (one_of_two (bytes_eq q path) (is_above path q) at) [
+      | inl here ↦ at_unowned owners path q none here
+      | inr below ↦ below_unowned owners path q all is below
+    ]
 
-pub looked_file : (tree : Tree) (path : List ℕ) (seen : Look) → IsLook tree path seen → looks_fileless seen ≡ has_no_file tree path
-looked_file tree path look.File is = ap not (sym is)
-looked_file tree path look.Folder is = none_seen (get tree path) is.0
-looked_file tree path look.Absent is = none_seen (get tree path) is.0
+abbrev is_foreign : ByPath Pkg → List ℕ → List ℕ → Bool
+is_foreign owners path q = meets path q && is_none (get owners q)
+
+-- without a file at `bin`, only those at the path or below it meet it, and nobody owns them
+pub foreign_stands : (tree : Tree) (owners : ByPath Pkg) (path : List ℕ) → OwnsInBin owners → get tree bin ≡ None → is_bin_path path ≡ true → get owners path ≡ None → meets_foreign tree owners path ≡ stands tree path
+foreign_stands tree owners path all bare is none =
+    both_by (meets_foreign tree owners path) (stands tree path)
+    (λ met. let found = any_key tree (is_foreign owners path) met in
+    some_key tree (at_or_below path) found.0 found.2 (meets_below path found.0 is (apart_from_bin tree found.0 bare found.2) (both_left (meets path found.0) (is_none (get owners found.0)) found.1)))
+    (λ at. let found = any_key tree (at_or_below path) at in
+    some_key tree (is_foreign owners path) found.0 found.2
+    (both (meets path found.0) (is_none (get owners found.0)) (below_meets path found.0 found.1) (nobody (get owners found.0) (around_unowned owners path found.0 all is none found.1))))
+
+-- a file at `bin` meets each, and nobody owns it
+pub foreign_at_bin : (tree : Tree) (owners : ByPath Pkg) (path : List ℕ) → OwnsInBin owners → IsSome (get tree bin) → is_bin_path path ≡ true → meets_foreign tree owners path ≡ true
+foreign_at_bin tree owners path all there is =
+    some_key tree (is_foreign owners path) bin there
+    (both (meets path bin) (is_none (get owners bin)) (second_of_two (bytes_eq path bin || is_above path bin) (is_above bin path) (bin_above_path path is)) (nobody (get owners bin) (bin_unowned owners all)))
+
+-- ---- what stands in the way of one file
+by_parts : (path : List ℕ) (owner : Option Pkg) (foreign : Bool) (o : Option Pkg) (f : Bool) → owner ≡ o → foreign ≡ f → way_barred path owner foreign ≡ way_barred path o f
+by_parts path owner foreign o f p q = rw (p, q) refl
+
+pub way_by_stands : (tree : Tree) (owners : ByPath Pkg) (path : List ℕ) (absent : Bool) → OwnsInBin owners → get tree bin ≡ None → is_bin_path path ≡ true → get owners path ≡ None → absent ≡ not (stands tree path)
+    → in_the_way tree owners path ≡ way_barred path None (not absent)
+way_by_stands tree owners path absent all bare is none seen =
+    by_parts path (get owners path) (meets_foreign tree owners path) None (not absent) none
+    (foreign_stands tree owners path all bare is none ∙ twice (stands tree path) ∙ ap not (sym seen))
+  where
+    twice : (b : Bool) → b ≡ not (not b)
+    twice true = refl
+    twice false = refl
+
+pub way_at_bin : (tree : Tree) (owners : ByPath Pkg) (path : List ℕ) → OwnsInBin owners → IsSome (get tree bin) → is_bin_path path ≡ true → in_the_way tree owners path ≡ way_barred path (get owners path) true
+way_at_bin tree owners path all there is = by_parts path (get owners path) (meets_foreign tree owners path) (get owners path) true refl (foreign_at_bin tree owners path all there is)
+
+pub way_owned : (tree : Tree) (owners : ByPath Pkg) (path : List ℕ) (owner : Pkg) → get owners path ≡ Some owner → in_the_way tree owners path ≡ Some (Owned path owner)
+way_owned tree owners path owner is = ap (λ (o : Option Pkg). way_barred path o (meets_foreign tree owners path)) is
+
+-- where nothing does
+pub free_by : (path : List ℕ) (owner : Option Pkg) (foreign : Bool) → way_barred path owner foreign ≡ None → (owner ≡ None) × (foreign ≡ false)
+free_by path (Some owner) foreign is = absurd (cc)
+free_by path None true is = absurd (cc)
+free_by path None false is = (refl, refl)
+
+met : (path : List ℕ) → meets path path ≡ true
+met path = ap (λ b. b || is_above path path || is_above path path) ((bytes_eq-Decides path path).1 refl)
+
+pub way_vacant : (tree : Tree) (owners : ByPath Pkg) (path : List ℕ) → in_the_way tree owners path ≡ None → is_none (get tree path) ≡ true
+way_vacant tree owners path free =
+    let parts = free_by path (get owners path) (meets_foreign tree owners path) free in
+    nobody (get tree path) (none_by (get tree path) (λ some. met_free (meets_foreign tree owners path) parts.1
+    (some_key tree (is_foreign owners path) path some (both (meets path path) (is_none (get owners path)) (met path) (nobody (get owners path) parts.0)))))
+  where
+    met_free : (b : Bool) → b ≡ false → b ≡ true → ⊥
+    met_free true no_more more = cc
+    met_free false no_more more = cc
+
+-- ---- the first of the files
+pub first_none : (one later : Option Reason) → first_of one later ≡ None → (one ≡ None) × (later ≡ None)
+first_none None later is = (refl, is)
+first_none (Some reason) later is = absurd (cc)
+
+pub all_vacant : (tree : Tree) (owners : ByPath Pkg) (pkg : Pkg) (files : List Placed) → first_clash tree owners pkg files ≡ None → list_all (is_vacant tree) files ≡ true
+all_vacant tree owners pkg [] free = refl
+all_vacant tree owners pkg (file ∷ files) free =
+    let parts = first_none (in_the_way tree owners file.path) (first_clash tree (insert owners file.path pkg) pkg files) free in
+    both (is_vacant tree file) (list_all (is_vacant tree) files) (way_vacant tree owners file.path parts.0) (all_vacant tree (insert owners file.path pkg) pkg files parts.1)
+
+pub all_unowned : (tree : Tree) (owners : ByPath Pkg) (pkg : Pkg) (files : List Placed) → first_clash tree owners pkg files ≡ None → list_all (is_unowned owners) files ≡ true
+all_unowned tree owners pkg [] free = refl
+all_unowned tree owners pkg (file ∷ files) free =
+    let parts = first_none (in_the_way tree owners file.path) (first_clash tree (insert owners file.path pkg) pkg files) free in
+    let here = free_by file.path (get owners file.path) (meets_foreign tree owners file.path) parts.0 in
+    both (is_unowned owners file) (list_all (is_unowned owners) files) (nobody (get owners file.path) here.0)
+    (unowned_before owners pkg file.path files (all_unowned tree (insert owners file.path pkg) pkg files parts.1)).0
+
+pub all_apart : (tree : Tree) (owners : ByPath Pkg) (pkg : Pkg) (files : List Placed) → first_clash tree owners pkg files ≡ None → paths_differ files ≡ true
+all_apart tree owners pkg [] free = refl
+all_apart tree owners pkg (file ∷ files) free =
+    let parts = first_none (in_the_way tree owners file.path) (first_clash tree (insert owners file.path pkg) pkg files) free in
+    both (not (is_among files file.path)) (paths_differ files)
+    (ap not (unowned_before owners pkg file.path files (all_unowned tree (insert owners file.path pkg) pkg files parts.1)).1)
+    (all_apart tree (insert owners file.path pkg) pkg files parts.1)
+
+-- one file on
+pub clash_next : (tree : Tree) (owners : ByPath Pkg) (pkg : Pkg) (files : List Placed) (i : ℕ) (file : Placed) (reason whole : Option Reason) → file ≡ get_or files i file → i < length files
+    → reason ≡ in_the_way tree (with_owner owners pkg (take i files)) file.path → first_clash tree (with_owner owners pkg (take i files)) pkg (drop i files) ≡ whole
+    → first_of reason (first_clash tree (with_owner owners pkg (take (i + 1) files)) pkg (drop (i + 1) files)) ≡ whole
+clash_next tree owners pkg files i file reason whole here within way so_far =
+    let own = with_owner owners pkg (take i files) in
+    let rest = drop (i + 1) files in
+    let next : drop i files ≡ file ∷ rest = drop_more files i file within ∙ ap (λ (f : Placed). f ∷ rest) (sym here) in
+    let grown : with_owner owners pkg (take (i + 1) files) ≡ insert own file.path pkg =
+    ap (with_owner owners pkg) (take_more files i file within ∙ ap (λ (f : Placed). take i files ++ f ∷ []) (sym here)) ∙ owner_last owners pkg (take i files) file in
+    ap (λ (o : Option Reason). first_of o (first_clash tree (with_owner owners pkg (take (i + 1) files)) pkg rest)) way
+    ∙ ap (λ (m : ByPath Pkg). first_of (in_the_way tree own file.path) (first_clash tree m pkg rest)) grown
+    ∙ ap (first_clash tree own pkg) (sym next) ∙ so_far
+
+-- a file at `bin` stands in the way of the first
+pub clash_at_bin : (tree : Tree) (owners : ByPath Pkg) (pkg : Pkg) (files : List Placed) (file : Placed) (reason : Reason) → OwnsInBin owners → IsSome (get tree bin) → list_all is_in_bin files ≡ true → 0 < length files → file ≡ get_or files 0 file
+    → Some reason ≡ way_barred file.path (get owners file.path) true → Some reason ≡ first_clash tree owners pkg files
+clash_at_bin tree owners pkg [] file reason all there in_bin some here is = absurd (omega (arith, some))
+clash_at_bin tree owners pkg (first ∷ files) file reason all there in_bin some here is =
+    let way = way_at_bin tree owners first.path all there (both_left (is_in_bin first) (list_all is_in_bin files) in_bin) in
+    let barred : Some reason ≡ way_barred first.path (get owners first.path) true = is ∙ ap (λ (f : Placed). way_barred f.path (get owners f.path) true) here in
+    ap (λ (o : Option Reason). first_of o (first_clash tree (insert owners first.path pkg) pkg files)) (barred ∙ sym way)

@@ -1,13 +1,14 @@
 -- What one call of a disk after another touches and leaves.
 use Rattle.std.proofs.Common.{◌≡◌, ℕ, List, [], ◌∷◌, ◌++◌, ◌+◌, ◌<◌, ◌≤◌, length, get_or, take, Bool, true, false, IsTrue, IsFalse, Option, Some, None, Result, Ok, Err, refl, sym, ◌∙◌, ap, subst}
 use Rattle.std.specs.Prelude.{bytes_eq, ◌||◌, OnOk}
-use Rattle.std.specs.FinMap.{get, insert}
+use Rattle.std.specs.FinMap.{get, insert, remove}
 use Rattle.std.proofs.lemmas.Slice.Eq.{bytes_eq-Decides}
 use Rattle.std.proofs.lemmas.List.{take_all, take_more}
 use Rattle.std.proofs.lemmas.List.Folds.{list_any_at}
 use Rattle.outside_io.specs.declared.sink.Failed.{Failed}
 use Rattle.crash_disk.specs.Disks.{Kept, State, TellsChange, TellsSync, Tree, synced, with_file}
-use Rattle.opam_top.specs.Commits.{IsSettled, Becomes, TouchesOnly, is_among, is_at, is_of_commit, kept, with_files}
+use Rattle.opam_top.proofs.Passed.{time_steps}
+use Rattle.opam_top.specs.Commits.{IsSettled, Becomes, TouchesOnly, gate_text, is_among, is_at, is_of_commit, kept, opened, plain, recorded, with_files}
 use Rattle.opam_top.specs.declared.commit.Encoded.{Encoded}
 use Rattle.opam_top.specs.declared.records.Placed.{Placed}
 
@@ -147,3 +148,39 @@ settled_by (Some old) after (Ok x) sync = λ s is.
     let same : synced old (Ok x) ≡ s = let e : Some (synced old (Ok x)) ≡ Some s = sym (sync.told old refl) ∙ is in cc in
     ap (λ (t : State). t.loose) (sym same)
 settled_by before after (Err e) sync = tt
+
+-- ---- a gate, and a record
+
+pub record_touches : {T S : Type 0} (ready : Encoded) (file other : Option Kept) (before mid after : Option State) (first : Result T Failed) (second : Result S Failed)
+    → TellsChange ready.next_gate file before mid first → TellsChange ready.rec_path other mid after second → TouchesOnly (is_of_commit ready) before after
+record_touches ready file other before mid after first second change more =
+    touches_then (is_of_commit ready) before mid after (change_touches (is_of_commit ready) ready.next_gate file before mid first (next_is_of ready) change)
+    (change_touches (is_of_commit ready) ready.rec_path other mid after second (record_is_of ready) more)
+
+pub record_synced_touches : {T S U : Type 0} (ready : Encoded) (file other : Option Kept) (before mid later after : Option State) (first : Result T Failed) (second : Result S Failed) (result : Result U Failed)
+    → TellsChange ready.next_gate file before mid first → TellsChange ready.rec_path other mid later second → TellsSync later after result → TouchesOnly (is_of_commit ready) before after
+record_synced_touches ready file other before mid later after first second result change more sync =
+    touches_then (is_of_commit ready) before later after (record_touches ready file other before mid later first second change more) (sync_touches (is_of_commit ready) later after result sync)
+
+pub gate_synced_touches : {T S : Type 0} (ready : Encoded) (file : Option Kept) (before mid after : Option State) (first : Result T Failed) (result : Result S Failed)
+    → TellsChange ready.gate_path file before mid first → TellsSync mid after result → TouchesOnly (is_of_commit ready) before after
+gate_synced_touches ready file before mid after first result change sync =
+    touches_then (is_of_commit ready) before mid after (change_touches (is_of_commit ready) ready.gate_path file before mid first (gate_is_of ready) change)
+    (sync_touches (is_of_commit ready) mid after result sync)
+
+pub record_synced : {T S U : Type 0} (ready : Encoded) (bytes : List ℕ) (before mid later after : Option State) (x : T) (y : S) (result : Result U Failed) → bytes ≡ ready.bytes
+    → TellsChange ready.next_gate None before mid (Ok x) → TellsChange ready.rec_path (Some (plain bytes)) mid later (Ok y) → TellsSync later after result → OnOk result (Becomes (recorded ready) before after)
+record_synced ready bytes before mid later after x y result same change more sync =
+    let put = subst (λ (b : List ℕ). TellsChange ready.rec_path (Some (plain b)) mid later (Ok y)) same more in
+    then_synced (recorded ready) before later after result
+    (becomes_then (λ tree. remove tree ready.next_gate) (λ tree. insert tree ready.rec_path (plain ready.bytes)) before mid later
+    (change_becomes ready.next_gate None before mid x change) (change_becomes ready.rec_path (Some (plain ready.bytes)) mid later y put))
+    sync
+
+pub gate_synced : {T S : Type 0} (ready : Encoded) (before mid after : Option State) (x : T) (result : Result S Failed)
+    → TellsChange ready.gate_path (Some (plain gate_text)) before mid (Ok x) → TellsSync mid after result → OnOk result (Becomes (opened ready) before after)
+gate_synced ready before mid after x result change sync = then_synced (opened ready) before mid after result (change_becomes ready.gate_path (Some (plain gate_text)) before mid x change) sync
+
+pub ruleset record_steps = (time_steps, change_touches, record_touches, record_synced_touches, record_synced, settled_by, next_is_of)
+
+pub ruleset gate_steps = (time_steps, change_touches, gate_synced_touches, gate_synced, settled_by, gate_is_of)

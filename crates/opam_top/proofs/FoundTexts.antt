@@ -6,7 +6,7 @@ use Rattle.outside_io.specs.Hosts.{IsFound}
 use Rattle.outside_io.specs.declared.host.Found.{Found}
 use Rattle.outside_io.specs.declared.host.Found.TheVariants.{Absent, Bytes}
 use Rattle.opam_names.specs.declared.packages.Pkg.{Pkg}
-use Rattle.opam_top.specs.Fronts.{bound_in_lock, if_built, lock_limit, of_package}
+use Rattle.opam_top.specs.Fronts.{bound_in_lock, if_built, lock_limit}
 use Rattle.opam_top.specs.Locks.{read_lock}
 use Rattle.opam_top.specs.Refusals.{Gives}
 use Rattle.opam_top.specs.declared.stops.Stop.{Stop}
@@ -21,10 +21,6 @@ stood_bytes (Some file) limit found bytes is found_is =
 short_enough : (bytes : List ℕ) → length bytes ≤ lock_limit → nat_le (length bytes) lock_limit ≡ true
 short_enough bytes short = grind (arith, nat_tests)
 
-pub lock_of_bytes : (file : List ℕ) (stood : Option (List ℕ)) (bytes : List ℕ) (result : Result (Option Pkg) Stop) → stood ≡ Some bytes → length bytes ≤ lock_limit
-    → Gives (λ (pkg : Option Pkg). pkg) result (if_built (read_lock bytes)) → Gives (λ (pkg : Option Pkg). pkg) result (bound_in_lock file stood)
+pub lock_of_bytes : (file : List ℕ) (stood : Option (List ℕ)) (bytes : List ℕ) (result : Result (List Pkg) Stop) → stood ≡ Some bytes → length bytes ≤ lock_limit
+    → Gives (λ (pkgs : List Pkg). pkgs) result (if_built (read_lock bytes)) → Gives (λ (pkgs : List Pkg). pkgs) result (bound_in_lock file stood)
 lock_of_bytes file stood bytes result is short gives = rw (is, short_enough bytes short) gives
-
-pub package_of_bytes : (pkg : Pkg) (stood : Option (List ℕ)) (bytes : List ℕ) (result : Result (Option Pkg) Stop) → stood ≡ Some bytes
-    → Gives (λ (pkg : Option Pkg). pkg) result (of_package pkg (Some bytes)) → Gives (λ (pkg : Option Pkg). pkg) result (of_package pkg stood)
-package_of_bytes pkg stood bytes result is gives = rw is gives

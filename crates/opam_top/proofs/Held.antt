@@ -1,19 +1,16 @@
 -- What a tree holds after a commit.
-use Rattle.std.proofs.Common.{◌≡◌, ℕ, zero, suc, List, [], ◌∷◌, ◌++◌, ◌<◌, length, get_or, Bool, true, false, cond, not, IsTrue, IsFalse, Option, Some, None, refl, sym, ◌∙◌, ap, subst, inl, inr, arith, lit<}
-use Rattle.std.specs.Prelude.{bytes_eq, codes, ◌&&◌, ◌||◌}
+use Rattle.std.proofs.Common.{◌≡◌, ℕ, zero, suc, List, [], ◌∷◌, ◌<◌, length, get_or, Bool, true, false, cond, not, IsTrue, IsFalse, Option, Some, None, refl, sym, ◌∙◌, ap, subst, inl, inr, arith}
+use Rattle.std.specs.Prelude.{bytes_eq, ◌&&◌, ◌||◌}
 use Rattle.std.specs.List.{Contains, list_all}
 use Rattle.std.specs.FinMap.{get, insert, remove, get-insert, get-remove}
 use Rattle.std.proofs.lemmas.Bool.{cases_Bool}
 use Rattle.std.proofs.lemmas.Cmp.{nat_list_cmp_total}
-use Rattle.std.proofs.lemmas.Fmt.{decimal_digit}
 use Rattle.std.proofs.lemmas.Map.Text.{is_eq-slice_cmp}
 use Rattle.std.proofs.lemmas.Slice.Eq.{bytes_eq-Decides}
 use Rattle.crash_disk.specs.Disks.{Kept, Tree}
-use Rattle.opam_top.specs.Commits.{IsFirst, begins_bin, committed, gate_text, is_among, is_at, is_below_bin, is_of_commit, kept, opened, paths_differ, plain, recorded, with_files}
-use Rattle.opam_top.specs.Journals.{gate_path, record_path}
+use Rattle.opam_top.specs.Commits.{begins_bin, committed, gate_text, is_among, is_at, is_below_bin, is_of_commit, kept, opened, paths_differ, plain, recorded, with_files}
 use Rattle.opam_top.specs.declared.commit.Encoded.{Encoded}
 use Rattle.opam_top.specs.declared.records.Placed.{Placed}
-use Rattle.opam_top.proofs.Places.{first_gate_path, first_record_path}
 
 -- ---- one file
 
@@ -116,10 +113,7 @@ pub each_file_held : (ready : Encoded) (tree : Tree) (file : Placed) → IsTrue 
 each_file_held ready tree file differ has =
     subst (λ (put : Placed). get (committed ready tree) put.path ≡ Some (kept put)) has.2 (file_held ready tree has.0 file differ has.1)
 
--- ---- the commit of the first record
-
-second_gate_path : gate_path 2 ≡ codes ".opam-switch/journal/gate/2"
-second_gate_path = ap (λ (k : List ℕ). codes ".opam-switch/journal/gate/" ++ k) (decimal_digit 2 (lit< tt))
+-- ---- files below `bin`
 
 unlike_bin : (q p : List ℕ) → begins_bin p ≡ true → begins_bin q ≡ false → bytes_eq q p ≡ false
 unlike_bin q p in_bin apart =
@@ -137,39 +131,3 @@ not_in_bin [] q below apart = refl
 not_in_bin (file ∷ files) q below apart =
     let two = both (is_below_bin file) (list_all is_below_bin files) below in
     not_either (is_at q file) (is_among files q) (unlike_bin q file.path two.0 apart) (not_in_bin files q two.1 apart)
-
-record_not_bin : begins_bin (record_path 1) ≡ false
-record_not_bin = ap begins_bin first_record_path
-
-gate_not_bin : begins_bin (gate_path 1) ≡ false
-gate_not_bin = ap begins_bin first_gate_path
-
-next_not_bin : begins_bin (gate_path 2) ≡ false
-next_not_bin = ap begins_bin second_gate_path
-
-record_not_gate : bytes_eq (record_path 1) (gate_path 1) ≡ false
-record_not_gate = λ i. bytes_eq (first_record_path i) (first_gate_path i)
-
-next_not_record : bytes_eq (gate_path 2) (record_path 1) ≡ false
-next_not_record = λ i. bytes_eq (second_gate_path i) (first_record_path i)
-
-next_not_gate : bytes_eq (gate_path 2) (gate_path 1) ≡ false
-next_not_gate = λ i. bytes_eq (second_gate_path i) (first_gate_path i)
-
-pub first_record_held : (ready : Encoded) (tree : Tree) → IsFirst ready → get (committed ready tree) (record_path 1) ≡ Some (plain ready.bytes)
-first_record_held ready tree is =
-    ap (get (committed ready tree)) (sym is.record_at)
-    ∙ record_held ready tree (ap (λ (p : List ℕ). bytes_eq p ready.gate_path) is.record_at ∙ ap (bytes_eq (record_path 1)) is.gate_at ∙ record_not_gate) (not_in_bin ready.puts ready.rec_path is.below_bin (ap begins_bin is.record_at ∙ record_not_bin))
-
-pub first_gate_held : (ready : Encoded) (tree : Tree) → IsFirst ready → get (committed ready tree) (gate_path 1) ≡ Some (plain gate_text)
-first_gate_held ready tree is =
-    ap (get (committed ready tree)) (sym is.gate_at)
-    ∙ gate_held ready tree (not_in_bin ready.puts ready.gate_path is.below_bin (ap begins_bin is.gate_at ∙ gate_not_bin))
-
-pub second_gate_gone : (ready : Encoded) (tree : Tree) → IsFirst ready → get (committed ready tree) (gate_path 2) ≡ None
-second_gate_gone ready tree is =
-    ap (get (committed ready tree)) (sym is.next_at)
-    ∙ next_gone ready tree
-    (ap (λ (p : List ℕ). bytes_eq p ready.rec_path) is.next_at ∙ ap (bytes_eq (gate_path 2)) is.record_at ∙ next_not_record)
-    (ap (λ (p : List ℕ). bytes_eq p ready.gate_path) is.next_at ∙ ap (bytes_eq (gate_path 2)) is.gate_at ∙ next_not_gate)
-    (not_in_bin ready.puts ready.next_gate is.below_bin (ap begins_bin is.next_at ∙ next_not_bin))

@@ -1,32 +1,21 @@
 -- What holds of the files of an install, in whatever order.
-use Rattle.std.proofs.Common.{◌≡◌, ℕ, ◌<◌, ◌≤◌, ◌^◌, Bool, true, false, not, List, [], ◌∷◌, length, IsTrue, IsSome, Option, Some, None, IfSome, refl, sym, ap, ◌∙◌, subst, arith, lit<, if◌then◌else◌}
-use Rattle.std.specs.Prelude.{is_none, nat_le, ◌||◌, map}
-use Rattle.std.specs.List.{AllByRecursion, list_all, list_any}
-use Rattle.std.specs.FinMap.{get, keys}
+use Rattle.std.proofs.Common.{◌≡◌, ℕ, ◌<◌, ◌≤◌, ◌^◌, Bool, true, false, List, [], ◌∷◌, length, Result, Ok, Err, IfOk, sym, subst, arith, lit<, if◌then◌else◌}
+use Rattle.std.specs.Prelude.{nat_le, map}
+use Rattle.std.specs.List.{AllByRecursion, list_all}
 use Rattle.std.proofs.lemmas.Bool.Decides.{nat_tests}
-use Rattle.std.proofs.lemmas.Slice.Eq.{bytes_eq-Decides}
-use Rattle.opam_names.specs.Paths.{is_above}
-use Rattle.crash_disk.specs.Disks.{Kept, Tree}
-use Rattle.opam_top.specs.InstallTexts.{is_item, read_items}
-use Rattle.opam_top.specs.Installs.{is_vacant}
-use Rattle.opam_top.specs.Placements.{are_apart, are_free, bin_path, first_room, in_byte_order, is_before, is_free, meets, paths_of, put_in, total_bytes}
+use Rattle.opam_names.specs.declared.packages.Pkg.{Pkg}
+use Rattle.action_report.specs.declared.decision.Reason.{Reason}
+use Rattle.action_report.specs.declared.decision.Reason.TheVariants.{SwitchFull}
+use Rattle.outside_io.specs.Counts.{ByPath}
+use Rattle.opam_top.specs.InstallTexts.{is_item}
+use Rattle.opam_top.specs.Installs.{if_room}
+use Rattle.opam_top.specs.Placements.{bin_path, first_room, in_byte_order, is_before, is_too_full, paths_of, put_in, total_bytes}
 use Rattle.opam_top.specs.Records.{FilesFit, PlacedFits}
 use Rattle.opam_top.specs.declared.records.Placed.{Placed}
 use Rattle.opam_top.proofs.ItemPaths.{item_short}
-use Rattle.opam_top.proofs.Keys.{some_key}
-use Rattle.opam_top.proofs.Orders.{order_keeps, order_length}
+use Rattle.opam_top.proofs.Orders.{order_length}
 use Rattle.opam_top.proofs.Sourced.{as_many}
-use Rattle.opam_top.proofs.Spelled.{read_are_items, read_are_few}
-use Rattle.opam_top.proofs.Tests.{both, both_left, both_right}
-
--- what a read install text gives
-pub good_items : (bytes : List ℕ) (items : Option (List (List ℕ))) → items ≡ read_items bytes → IfSome items (λ list. IsTrue (list_all is_item list))
-good_items bytes None is = tt
-good_items bytes (Some list) is = read_are_items bytes list (sym is)
-
-pub few_items : (bytes : List ℕ) (items : Option (List (List ℕ))) → items ≡ read_items bytes → IfSome items (λ list. length list ≤ 65536)
-few_items bytes None is = tt
-few_items bytes (Some list) is = read_are_few bytes list (sym is)
+use Rattle.opam_top.proofs.Tests.{both_left, both_right}
 
 module _ (P : Placed → Type 0) where
   put_by : (before : Bool) (file other : Placed) (files : List Placed) → P file → P other → AllByRecursion P files → AllByRecursion P (put_in file files) → AllByRecursion P (if before then other ∷ put_in file files else file ∷ other ∷ files)
@@ -41,39 +30,16 @@ module _ (P : Placed → Type 0) where
   order_all [] all = tt
   order_all (file ∷ files) all = put_keeps file (in_byte_order files) all.0 (order_all files all.1)
 
-pub order_fits : (files : List Placed) (order : Option (List Placed)) → FilesFit files → order ≡ Some (in_byte_order files) → IfSome order FilesFit
-order_fits files order fit is =
-    let P : Option (List Placed) → Type 0 = λ o. IfSome o FilesFit in
-    subst P (sym is) (record { count = rw (order_length files) fit.count; each = order_all PlacedFits files fit.each })
+pub order_fits : (files : List Placed) → FilesFit files → FilesFit (in_byte_order files)
+order_fits files fit = record { count = rw (order_length files) fit.count; each = order_all PlacedFits files fit.each }
 
-pub order_passes : (test : Placed → Bool) (files : List Placed) (order : Option (List Placed)) → list_all test files ≡ true → order ≡ Some (in_byte_order files) → IfSome order (λ list. IsTrue (list_all test list))
-order_passes test files order all is =
-    let P : Option (List Placed) → Type 0 = λ o. IfSome o (λ list. IsTrue (list_all test list)) in
-    subst P (sym is) (order_keeps test files ∙ all)
+-- what holds of the files in order holds of those for which there is room
+room_by : (full : Bool) (order : List Placed) (result : Result (List Placed) Reason) (P : List Placed → Type 0) → P order → result ≡ (if full then Err SwitchFull else Ok order) → IfOk result P
+room_by true order result P holds is = let Q : Result (List Placed) Reason → Type 0 = λ r. IfOk r P in subst Q (sym is) tt
+room_by false order result P holds is = let Q : Result (List Placed) Reason → Type 0 = λ r. IfOk r P in subst Q (sym is) holds
 
--- where no file of the tree meets a path, none stands there
-not_true : (b : Bool) → not b ≡ true → b ≡ true → ⊥
-not_true true a b = cc
-not_true false a b = cc
-
-met : (path : List ℕ) → meets path path ≡ true
-met path = ap (λ b. b || is_above path path || is_above path path) ((bytes_eq-Decides path path).1 refl)
-
-vacant_by : (tree : Tree) (path : List ℕ) (stood : Option Kept) → get tree path ≡ stood → is_free tree path ≡ true → is_none stood ≡ true
-vacant_by tree path None is free = refl
-vacant_by tree path (Some file) is free =
-    let there : IsSome (get tree path) = rw is refl in
-    absurd (not_true (list_any (meets path) (keys tree)) free (some_key tree (meets path) path there (met path)))
-
-all_vacant : (tree : Tree) (files : List Placed) → list_all (λ file. is_free tree file.path) files ≡ true → list_all (is_vacant tree) files ≡ true
-all_vacant tree [] free = refl
-all_vacant tree (file ∷ files) free =
-    both (is_vacant tree file) (list_all (is_vacant tree) files)
-    (vacant_by tree file.path (get tree file.path) refl (both_left (is_free tree file.path) (list_all (λ f. is_free tree f.path) files) free))
-    (all_vacant tree files (both_right (is_free tree file.path) (list_all (λ f. is_free tree f.path) files) free))
-
-pub free_vacant : (tree : Tree) (files : List Placed) → are_free tree files ≡ true → list_all (is_vacant tree) files ≡ true
-free_vacant tree files free = all_vacant tree files (both_left (list_all (λ file. is_free tree file.path) files) (are_apart files) free)
+pub if_roomy : (owners : ByPath Pkg) (files : List Placed) (result : Result (List Placed) Reason) (P : List Placed → Type 0) → P (in_byte_order files) → result ≡ if_room owners files → IfOk result P
+if_roomy owners files result P holds is = room_by (is_too_full owners files) (in_byte_order files) result P holds is
 
 -- the lengths of files whose paths are items in `bin`
 path_short : (item : List ℕ) → is_item item ≡ true → length (bin_path item) < 2 ^ 16

@@ -1,17 +1,15 @@
 -- Exactly the canonical spellings are read.
-use Rattle.std.proofs.Common.{◌≡◌, ◌⊎◌, inl, inr, ℕ, ◌≤◌, List, [], ◌∷◌, ◌++◌, length, Bool, true, false, Option, Some, None, refl, sym, ◌∙◌, ap, subst, arith, append_assoc}
+use Rattle.std.proofs.Common.{◌≡◌, ◌⊎◌, inl, inr, ℕ, ◌≤◌, List, [], ◌∷◌, ◌++◌, length, Bool, true, false, Some, None, refl, sym, ◌∙◌, ap, subst, arith, append_assoc}
 use Rattle.std.specs.Prelude.{nat_le, bytes_eq, codes, ◌==◌, ◌&&◌, ◌||◌, if◌then◌else◌}
-use Rattle.std.specs.List.{list_all, list_any}
+use Rattle.std.specs.List.{list_all}
 use Rattle.std.proofs.lemmas.List.{append_cancel_right}
 use Rattle.std.proofs.lemmas.Bool.Decides.{nat_tests}
 use Rattle.std.proofs.lemmas.Slice.Eq.{bytes_eq-Decides}
-use Rattle.opam_names.specs.Names.{is_letter, is_name, is_name_byte, is_version, is_version_byte}
-use Rattle.opam_names.specs.declared.packages.Pkg.{Pkg}
 use Rattle.opam_top.proofs.Tests.{both_left, both_right}
-use Rattle.opam_top.specs.InstallTexts.{are_items, further, in_quotes, install_text, is_item, is_item_byte, read_items, read_spelled, spaced}
-use Rattle.opam_top.specs.Locks.{lock_text, read_texts}
-use Rattle.opam_top.specs.Readings.{IsBound, IsInstallText, IsLockText, IsSpelling, InstallTextsAreRead, LocksAreRead}
-use Rattle.opam_top.specs.Spellings.{is_spelled, onto_first, quoted, quoted_from}
+use Rattle.opam_names.specs.Names.{is_name_byte, is_version_byte}
+use Rattle.opam_top.specs.InstallTexts.{are_items, further, install_text, is_item, is_item_byte, read_items, read_spelled, spaced}
+use Rattle.opam_top.specs.Readings.{IsInstallText, IsSpelling, InstallTextsAreRead}
+use Rattle.opam_top.specs.Spellings.{in_quotes, is_spelled, onto_first, quoted, quoted_from}
 use Rattle.opam_top.proofs.ItemPaths.{item_bytes}
 
 both : (a b : Bool) → a ≡ true → b ≡ true → (a && b) ≡ true
@@ -30,14 +28,14 @@ second_of : (a b : Bool) → b ≡ true → (a || b) ≡ true
 second_of true b is = refl
 second_of false b is = is
 
-spelled : (bytes text : List ℕ) → is_spelled bytes text ≡ true → IsSpelling bytes text
+pub spelled : (bytes text : List ℕ) → is_spelled bytes text ≡ true → IsSpelling bytes text
 spelled bytes text is =
     elim (one_of (bytes_eq bytes text) (bytes_eq (bytes ++ 10 ∷ []) text) is) [
       | inl whole ↦ inl ((bytes_eq-Decides bytes text).0 whole)
       | inr part ↦ inr ((bytes_eq-Decides (bytes ++ 10 ∷ []) text).0 part)
     ]
 
-is_spelling : (bytes text : List ℕ) → IsSpelling bytes text → is_spelled bytes text ≡ true
+pub is_spelling : (bytes text : List ℕ) → IsSpelling bytes text → is_spelled bytes text ≡ true
 is_spelling bytes text is =
     elim is [
       | inl whole ↦ first_of (bytes_eq bytes text) (bytes_eq (bytes ++ 10 ∷ []) text) ((bytes_eq-Decides bytes text).1 whole)
@@ -50,7 +48,7 @@ inside_by : (is_quote : Bool) (b : ℕ) (text rest : List ℕ) → is_quote ≡ 
 inside_by true b text rest is later = absurd (cc)
 inside_by false b text rest is later = ap (onto_first b) later
 
-inside : (test : ℕ → Bool) → ((b : ℕ) → test b ≡ true → (b == 34) ≡ false) → (text rest : List ℕ) → list_all test text ≡ true → quoted_from true (text ++ 34 ∷ rest) ≡ text ∷ quoted rest
+pub inside : (test : ℕ → Bool) → ((b : ℕ) → test b ≡ true → (b == 34) ≡ false) → (text rest : List ℕ) → list_all test text ≡ true → quoted_from true (text ++ 34 ∷ rest) ≡ text ∷ quoted rest
 inside test apart [] rest all = refl
 inside test apart (b ∷ text) rest all =
     inside_by (b == 34) b text rest (apart b (both_left (test b) (list_all test text) all)) (inside test apart text rest (both_right (test b) (list_all test text) all))
@@ -58,10 +56,10 @@ inside test apart (b ∷ text) rest all =
 item_no_quote : (b : ℕ) → is_item_byte b ≡ true → (b == 34) ≡ false
 item_no_quote b is = grind (arith, nat_tests)
 
-name_no_quote : (b : ℕ) → is_name_byte b ≡ true → (b == 34) ≡ false
+pub name_no_quote : (b : ℕ) → is_name_byte b ≡ true → (b == 34) ≡ false
 name_no_quote b is = grind (arith, nat_tests)
 
-version_no_quote : (b : ℕ) → is_version_byte b ≡ true → (b == 34) ≡ false
+pub version_no_quote : (b : ℕ) → is_version_byte b ≡ true → (b == 34) ≡ false
 version_no_quote b is = grind (arith, nat_tests)
 
 -- an item in quotes, and what follows it
@@ -96,7 +94,7 @@ items_of_text bytes items all is =
       | inr part ↦ ap quoted (append_cancel_right bytes (opened items) (10 ∷ []) (part ∙ sym (newline_last items))) ∙ spaced_first items (codes "]") all refl
     ]
 
-chosen : {X : Type 0} (b : Bool) (x y : X) → (if b then Some x else None) ≡ Some y → (b ≡ true) × (x ≡ y)
+pub chosen : {X : Type 0} (b : Bool) (x y : X) → (if b then Some x else None) ≡ Some y → (b ≡ true) × (x ≡ y)
 chosen true x y is = (refl, cc)
 chosen false x y is = absurd (cc)
 
@@ -148,75 +146,3 @@ read_are_few bytes items is =
       | inl empty ↦ omega (arith, ap length empty.1)
       | inr text ↦ text.few
     ]
-
--- the texts of a lock
-name_bytes : (name : List ℕ) → is_name name ≡ true → list_all is_name_byte name ≡ true
-name_bytes name is = both_left (list_all is_name_byte name) (list_any is_letter name) (both_left (list_all is_name_byte name && list_any is_letter name) (nat_le (length name) 120) is)
-
-version_bytes : (version : List ℕ) → is_version version ≡ true → list_all is_version_byte version ≡ true
-version_bytes version is = both_left (list_all is_version_byte version) (nat_le 1 (length version)) (both_left (list_all is_version_byte version && nat_le 1 (length version)) (nat_le (length version) 120) is)
-
-two_texts : (name version rest : List ℕ) → list_all is_name_byte name ≡ true → list_all is_version_byte version ≡ true → quoted rest ≡ []
-    → quoted_from true (((name ++ codes "\" {= \"") ++ version) ++ 34 ∷ rest) ≡ name ∷ version ∷ []
-two_texts name version rest all every none =
-    ap (quoted_from true) (append_assoc (name ++ codes "\" {= \"") version (34 ∷ rest) ∙ append_assoc name (codes "\" {= \"") (version ++ 34 ∷ rest))
-    ∙ inside is_name_byte name_no_quote name (codes " {= \"" ++ (version ++ 34 ∷ rest)) all
-    ∙ ap (λ (l : List (List ℕ)). name ∷ l) (inside is_version_byte version_no_quote version rest every ∙ ap (λ (l : List (List ℕ)). version ∷ l) none)
-
-abbrev opened_pkg : List ℕ → List ℕ → List ℕ
-opened_pkg name version = codes "depends: [\"" ++ name ++ codes "\" {= \"" ++ version ++ codes "\"}]"
-
-abbrev texts_of : Option Pkg → List (List ℕ)
-texts_of None = []
-texts_of (Some pkg) = pkg.name ∷ pkg.version ∷ []
-
-texts_of_lock : (bytes : List ℕ) (bound : Option Pkg) → IsBound bound → IsSpelling bytes (lock_text bound) → quoted bytes ≡ texts_of bound
-texts_of_lock bytes None valid is =
-    elim is [
-      | inl whole ↦ ap quoted whole
-      | inr part ↦ ap quoted (append_cancel_right bytes (codes "depends: []") (10 ∷ []) part)
-    ]
-texts_of_lock bytes (Some pkg) valid is =
-    let all = name_bytes pkg.name valid.0 in
-    let every = version_bytes pkg.version valid.1 in
-    elim is [
-      | inl whole ↦ ap quoted whole ∙ two_texts pkg.name pkg.version (codes "}]\n") all every refl
-      | inr part ↦
-          let last = append_assoc (codes "depends: [\"" ++ pkg.name ++ codes "\" {= \"" ++ pkg.version) (codes "\"}]") (10 ∷ []) in
-          ap quoted (append_cancel_right bytes (opened_pkg pkg.name pkg.version) (10 ∷ []) (part ∙ sym last)) ∙ two_texts pkg.name pkg.version (codes "}]") all every refl
-    ]
-
-lock_by_texts : (bytes : List ℕ) (texts : List (List ℕ)) (bound : Option Pkg) → read_texts bytes texts ≡ Some bound → IsLockText bytes bound
-lock_by_texts bytes [] bound is =
-    let holds = chosen (is_spelled bytes (lock_text None)) None bound is in
-    let of = λ (b : Option Pkg). IsLockText bytes b in
-    subst of holds.1 (record { valid = tt; text = spelled bytes (lock_text None) holds.0 })
-lock_by_texts bytes (name ∷ []) bound is = absurd (cc)
-lock_by_texts bytes (name ∷ version ∷ []) bound is =
-    let pkg : Pkg = record { name = name; version = version } in
-    let holds = chosen (is_name name && is_version version && is_spelled bytes (lock_text (Some pkg))) (Some pkg) bound is in
-    let valid = both_left (is_name name && is_version version) (is_spelled bytes (lock_text (Some pkg))) holds.0 in
-    let text = both_right (is_name name && is_version version) (is_spelled bytes (lock_text (Some pkg))) holds.0 in
-    let of = λ (b : Option Pkg). IsLockText bytes b in
-    subst of holds.1 (record { valid = (both_left (is_name name) (is_version version) valid, both_right (is_name name) (is_version version) valid); text = spelled bytes (lock_text (Some pkg)) text })
-lock_by_texts bytes (name ∷ version ∷ text ∷ texts) bound is = absurd (cc)
-
-lock_is_read : (bytes : List ℕ) (bound : Option Pkg) → IsLockText bytes bound → read_texts bytes (texts_of bound) ≡ Some bound
-lock_is_read bytes None is = ap (λ b. if b then Some None else None) (is_spelling bytes (lock_text None) is.text)
-lock_is_read bytes (Some pkg) is =
-    ap (λ b. if b then Some (Some pkg) else None)
-    (both (is_name pkg.name && is_version pkg.version) (is_spelled bytes (lock_text (Some pkg))) (both (is_name pkg.name) (is_version pkg.version) is.valid.0 is.valid.1) (is_spelling bytes (lock_text (Some pkg)) is.text))
-
-not_empty_lock : (bound : Option Pkg) → IsSpelling [] (lock_text bound) → ⊥
-not_empty_lock None is = elim is [ inl whole ↦ cc | inr part ↦ cc ]
-not_empty_lock (Some pkg) is = elim is [ inl whole ↦ cc | inr part ↦ cc ]
-
-pub locks_read : LocksAreRead
-locks_read [] bound = (λ is. inl (refl, cc), λ is. elim is [ inl empty ↦ ap (λ (b : Option Pkg). Some b) (sym empty.1) | inr text ↦ absurd (not_empty_lock bound text.text) ])
-locks_read (b ∷ bytes) bound = (
-  λ is. inr (lock_by_texts (b ∷ bytes) (quoted (b ∷ bytes)) bound is),
-  λ is. elim is [
-    | inl empty ↦ absurd (cc)
-    | inr text ↦ ap (read_texts (b ∷ bytes)) (texts_of_lock (b ∷ bytes) bound text.valid text.text) ∙ lock_is_read (b ∷ bytes) bound text
-  ],
-)

@@ -1,6 +1,6 @@
 -- The commit of a record: what it leaves, and what it touches. This project's own.
-use Rattle.std.specs.Prelude.{◌≡◌, ℕ, List, [], ◌∷◌, take, Bool, true, false, IsTrue, IsFalse, not, bytes_eq, codes, ◌&&◌, ◌||◌}
-use Rattle.std.specs.List.{list_all, list_any}
+use Rattle.std.specs.Prelude.{◌≡◌, ℕ, ◌+◌, List, [], ◌∷◌, take, Bool, true, false, IsFalse, not, bytes_eq, codes, ◌&&◌, ◌||◌}
+use Rattle.std.specs.List.{list_any}
 use Rattle.std.specs.FinMap.{get, insert, remove}
 use Rattle.std.specs.declared.option.Option.{Option}
 use Rattle.std.specs.declared.option.Option.TheVariants.{None, Some}
@@ -69,17 +69,10 @@ abbrev pub paths_differ : List Placed → Bool
 paths_differ [] = true
 paths_differ (file ∷ files) = not (is_among files file.path) && paths_differ files
 
--- the commit of the first record, whose files all stand below `bin`
-pub record IsFirst (ready : Encoded) : Type 0 where
-  pub record_at : ready.rec_path ≡ record_path 1
-  pub gate_at : ready.gate_path ≡ gate_path 1
-  pub next_at : ready.next_gate ≡ gate_path 2
-  pub below_bin : IsTrue (list_all is_below_bin ready.puts)
-
 -- nothing is loose on a disk that tells
 abbrev pub IsSettled : Option State → Type 0
 IsSettled told = (s : State) → told ≡ Some s → s.loose ≡ []
 
--- what makes a record ready: it is the first, and these files are put
-abbrev pub ready_with : List ℕ → List Placed → Encoded
-ready_with bytes files = record { bytes = bytes; rec_path = record_path 1; gate_path = gate_path 1; next_gate = gate_path 2; puts = files }
+-- what makes a record ready that gets this number: these are its bytes, and these files are put
+abbrev pub ready_with : ℕ → List ℕ → List Placed → Encoded
+ready_with number bytes files = record { bytes = bytes; rec_path = record_path number; gate_path = gate_path number; next_gate = gate_path (number + 1); puts = files }

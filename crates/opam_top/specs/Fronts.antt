@@ -1,5 +1,6 @@
 -- From the words to what is to be installed, with the first refusal. This project's own.
-use Rattle.std.specs.Prelude.{ℕ, List, ◌++◌, codes, length, bytes_eq, nat_le, Result, Ok, Err, if◌then◌else◌}
+use Rattle.std.specs.Prelude.{ℕ, List, [], ◌∷◌, ◌++◌, Bool, true, false, codes, length, map, nat_le, ◌&&◌, Result, Ok, Err, if◌then◌else◌}
+use Rattle.std.specs.List.{filter_map, list_all}
 use Rattle.std.specs.FinMap.{get}
 use Rattle.std.specs.declared.option.Option.{Option}
 use Rattle.std.specs.declared.option.Option.TheVariants.{None, Some}
@@ -9,8 +10,12 @@ use Rattle.outside_io.specs.Counts.{Files}
 use Rattle.crash_disk.specs.Disks.{Tree}
 use Rattle.opam_top.specs.Journals.{is_fresh}
 use Rattle.opam_top.specs.Locks.{read_lock}
+use Rattle.opam_top.specs.OpamFiles.{read_opam}
 use Rattle.opam_top.specs.Refusals.{not_built, not_found, not_in_repository}
 use Rattle.opam_top.specs.Words.{lock_file}
+use Rattle.opam_top.specs.declared.member.Answer.{Answer}
+use Rattle.opam_top.specs.declared.member.Answer.TheVariants.{Known, Unknown, NotBuilt}
+use Rattle.opam_top.specs.declared.member.Member.{Member}
 use Rattle.opam_top.specs.declared.stops.Refusal.{Refusal}
 
 -- 4 MiB
@@ -25,34 +30,63 @@ opam_limit = 1048576
 abbrev pub opam_path : Pkg → List ℕ
 opam_path pkg = codes "./packages/" ++ pkg.name ++ codes "/" ++ pkg_text pkg ++ codes "/opam"
 
--- the one opam file that is built
-abbrev pub built_opam : List ℕ
-built_opam = codes "opam-version: \"2.0\"\n"
+abbrev pub with_commands : Pkg → List ℕ → Option (List (List (List ℕ))) → Answer
+with_commands pkg opam None = NotBuilt
+with_commands pkg opam (Some commands) = Known (record { pkg = pkg; opam = opam; commands = commands })
 
-abbrev pub of_package : Pkg → Option (List ℕ) → Result (Option Pkg) Refusal
-of_package pkg None = Err (not_in_repository pkg)
-of_package pkg (Some opam) = if bytes_eq opam built_opam then Ok (Some pkg) else Err not_built
+-- what the repository has of a package, where this stands at its path
+abbrev pub answer_by : Pkg → Option (List ℕ) → Answer
+answer_by pkg None = Unknown pkg
+answer_by pkg (Some opam) = if nat_le (length opam) opam_limit then with_commands pkg opam (read_opam opam) else NotBuilt
 
-abbrev pub if_built : Option (Option Pkg) → Result (Option Pkg) Refusal
+abbrev pub answer_of : Files → Pkg → Answer
+answer_of files pkg = answer_by pkg (get files (opam_path pkg))
+
+abbrev pub unknown_of : Answer → Option Pkg
+unknown_of (Known member) = None
+unknown_of (Unknown pkg) = Some pkg
+unknown_of NotBuilt = None
+
+abbrev pub member_of : Answer → Option Member
+member_of (Known member) = Some member
+member_of (Unknown pkg) = None
+member_of NotBuilt = None
+
+abbrev pub is_known : Answer → Bool
+is_known (Known member) = true
+is_known (Unknown pkg) = false
+is_known NotBuilt = false
+
+abbrev pub unless_unknown : List Pkg → Result (List Member) Refusal → Result (List Member) Refusal
+unless_unknown [] later = later
+unless_unknown (pkg ∷ pkgs) later = Err (not_in_repository (pkg ∷ pkgs))
+
+-- the packages, once the repository was asked for each: all that it lacks are named, and then each has to be built
+abbrev pub members_of : List Answer → Result (List Member) Refusal
+members_of answers = unless_unknown (filter_map unknown_of answers) (if list_all is_known answers then Ok (filter_map member_of answers) else Err not_built)
+
+abbrev pub if_built : Option (List Pkg) → Result (List Pkg) Refusal
 if_built None = Err not_built
-if_built (Some bound) = Ok bound
+if_built (Some pkgs) = Ok pkgs
 
 -- what the lock binds
-abbrev pub bound_in_lock : List ℕ → Option (List ℕ) → Result (Option Pkg) Refusal
+abbrev pub bound_in_lock : List ℕ → Option (List ℕ) → Result (List Pkg) Refusal
 bound_in_lock file None = Err (not_found file)
 bound_in_lock file (Some bytes) = if nat_le (length bytes) lock_limit then if_built (read_lock bytes) else Err not_built
 
--- its package stands in the repository
-abbrev pub in_repository : Files → Result (Option Pkg) Refusal → Result (Option Pkg) Refusal
+abbrev pub in_repository : Files → Result (List Pkg) Refusal → Result (List Member) Refusal
 in_repository files (Err refusal) = Err refusal
-in_repository files (Ok None) = Ok None
-in_repository files (Ok (Some pkg)) = of_package pkg (get files (opam_path pkg))
+in_repository files (Ok pkgs) = members_of (map (answer_of files) pkgs)
 
 -- a disk that has a journal is not built
-abbrev pub of_words : Option (List ℕ) → Files → Tree → Result (Option Pkg) Refusal
+abbrev pub of_words : Option (List ℕ) → Files → Tree → Result (List Member) Refusal
 of_words None files tree = Err not_built
 of_words (Some file) files tree = if is_fresh tree then in_repository files (bound_in_lock file (get files file)) else Err not_built
 
--- the package to install, if there is one
-abbrev pub front : List (List ℕ) → Files → Tree → Result (Option Pkg) Refusal
+-- what is to be installed, in the order of names
+abbrev pub front : List (List ℕ) → Files → Tree → Result (List Member) Refusal
 front words files tree = of_words (lock_file words) files tree
+
+-- its opam file has at most 1 MiB, and it has at most 64 commands
+abbrev pub is_short : Member → Bool
+is_short member = nat_le (length member.opam) opam_limit && nat_le (length member.commands) 64

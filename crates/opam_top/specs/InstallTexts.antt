@@ -6,7 +6,7 @@ use Rattle.std.specs.declared.option.Option.{Option}
 use Rattle.std.specs.declared.option.Option.TheVariants.{None, Some}
 use Rattle.opam_names.specs.Names.{is_letter, is_digit}
 use Rattle.opam_names.specs.Paths.{is_part}
-use Rattle.opam_top.specs.Spellings.{is_spelled, quoted}
+use Rattle.opam_top.specs.Spellings.{in_quotes, is_spelled, quoted}
 
 -- a letter, a digit, `_`, `-` or `.`
 abbrev pub is_item_byte : ℕ → Bool
@@ -15,9 +15,6 @@ is_item_byte b = is_letter b || is_digit b || b == 95 || b == 45 || b == 46
 -- not empty, neither `.` nor `..`, and so short that `bin/` and it are a path
 abbrev pub is_item : List ℕ → Bool
 is_item item = list_all is_item_byte item && is_part item && nat_le (length item) 1020
-
-abbrev pub in_quotes : List ℕ → List ℕ
-in_quotes item = 34 ∷ item ++ 34 ∷ []
 
 -- further texts, each after a space
 abbrev pub further : List (List ℕ) → List ℕ

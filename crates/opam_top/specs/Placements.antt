@@ -1,19 +1,21 @@
--- The files of a package that are to be placed: from where they come, whether their places are free, and their order.
+-- The files of a package that are to be placed: from where they come, what stands in their way, and their order.
 -- This project's own.
-use Rattle.std.specs.Prelude.{ℕ, ◌+◌, ◌-◌, List, [], ◌∷◌, ◌++◌, length, take, drop, Bool, true, false, not, bytes_eq, codes, is_some, nat_le, ◌&&◌, ◌||◌, if◌then◌else◌}
-use Rattle.std.specs.List.{list_all, list_any}
-use Rattle.std.specs.FinMap.{get, keys}
+use Rattle.std.specs.Prelude.{ℕ, ◌+◌, ◌-◌, List, [], ◌∷◌, ◌++◌, length, take, drop, Bool, true, false, not, bytes_eq, codes, is_none, is_some, nat_le, Result, Ok, Err, ◌&&◌, ◌||◌, if◌then◌else◌}
+use Rattle.std.specs.List.{list_any}
+use Rattle.std.specs.FinMap.{get, insert, keys, len}
 use Rattle.std.specs.Ordering.{nat_cmp, is_lt}
 use Rattle.std.specs.Cmp.Lexicographic.{slice_cmp}
 use Rattle.std.specs.declared.option.Option.{Option}
 use Rattle.std.specs.declared.option.Option.TheVariants.{None, Some}
 use Rattle.opam_names.specs.Paths.{is_above}
+use Rattle.opam_names.specs.declared.packages.Pkg.{Pkg}
+use Rattle.action_report.specs.declared.decision.Reason.{Reason}
+use Rattle.action_report.specs.declared.decision.Reason.TheVariants.{Missing, Unreadable, FilesTooLong, Owned, Foreign}
 use Rattle.outside_io.specs.Counts.{ByPath}
 use Rattle.crash_disk.specs.Disks.{Tree}
 use Rattle.crash_disk.specs.declared.disk.Look.{Look}
 use Rattle.crash_disk.specs.declared.disk.Look.TheVariants.{Absent, File, Folder}
 use Rattle.opam_top.specs.InstallTexts.{is_item}
-use Rattle.opam_top.specs.Journals.{stands}
 use Rattle.opam_top.specs.declared.records.Placed.{Placed}
 
 -- where an item is placed
@@ -24,22 +26,23 @@ abbrev pub placed_at : List ℕ → List ℕ → Placed
 placed_at item bytes = record { path = bin_path item; exec = true; bytes = bytes }
 
 -- what an item gives where this stands at its path and so many bytes may still be placed
-abbrev pub source : List ℕ → ℕ → Option (Option (List ℕ)) → Option Placed
-source item room None = None
-source item room (Some None) = None
-source item room (Some (Some bytes)) = if nat_le (length bytes) room then Some (placed_at item bytes) else None
+abbrev pub source : List ℕ → ℕ → Option (Option (List ℕ)) → Result Placed Reason
+source item room None = Err (Missing item)
+source item room (Some None) = Err (Unreadable item)
+source item room (Some (Some bytes)) = if nat_le (length bytes) room then Ok (placed_at item bytes) else Err FilesTooLong
 
-abbrev pub prepend : List Placed → Option (List Placed) → Option (List Placed)
-prepend files None = None
-prepend files (Some more) = Some (files ++ more)
+abbrev pub prepend : List Placed → Result (List Placed) Reason → Result (List Placed) Reason
+prepend files (Err reason) = Err reason
+prepend files (Ok more) = Ok (files ++ more)
 
-abbrev pub with_source : Option Placed → ℕ → (ℕ → Option (List Placed)) → Option (List Placed)
-with_source None room later = None
-with_source (Some file) room later = prepend (file ∷ []) (later (room - length file.bytes))
+abbrev pub with_source : Result Placed Reason → ℕ → (ℕ → Result (List Placed) Reason) → Result (List Placed) Reason
+with_source (Err reason) room later = Err reason
+with_source (Ok file) room later = prepend (file ∷ []) (later (room - length file.bytes))
 
--- the files of items, which stand in a build folder, with at most so many bytes together
-abbrev pub placed_from : ByPath (Option (List ℕ)) → ℕ → List (List ℕ) → Option (List Placed)
-placed_from files room [] = Some []
+-- the files of items, which stand in a build folder, with at most so many bytes together; the first that cannot be had
+-- is the reason why there are none
+abbrev pub placed_from : ByPath (Option (List ℕ)) → ℕ → List (List ℕ) → Result (List Placed) Reason
+placed_from files room [] = Ok []
 placed_from files room (item ∷ items) = with_source (source item room (get files item)) room (λ left. placed_from files left items)
 
 abbrev pub paths_of : List Placed → List (List ℕ)
@@ -59,22 +62,35 @@ first_room = 268435456
 abbrev pub meets : List ℕ → List ℕ → Bool
 meets p q = bytes_eq p q || is_above p q || is_above q p
 
--- no file of the tree meets the path
-abbrev pub is_free : Tree → List ℕ → Bool
-is_free files path = not (list_any (meets path) (keys files))
+-- some file that nobody owns meets the path
+abbrev pub meets_foreign : Tree → ByPath Pkg → List ℕ → Bool
+meets_foreign tree owners path = list_any (λ q. meets path q && is_none (get owners q)) (keys tree)
 
--- no two of them meet
-abbrev pub are_apart : List Placed → Bool
-are_apart [] = true
-are_apart (file ∷ files) = not (list_any (λ other. meets file.path other.path) files) && are_apart files
+abbrev pub way_barred : List ℕ → Option Pkg → Bool → Option Reason
+way_barred path (Some owner) foreign = Some (Owned path owner)
+way_barred path None true = Some (Foreign path)
+way_barred path None false = None
 
--- all of them can be placed in the tree
-abbrev pub are_free : Tree → List Placed → Bool
-are_free tree files = list_all (λ file. is_free tree file.path) files && are_apart files
+-- what stands in the way of a file at this path: who owns the path, or else a file that nobody owns
+abbrev pub in_the_way : Tree → ByPath Pkg → List ℕ → Option Reason
+in_the_way tree owners path = way_barred path (get owners path) (meets_foreign tree owners path)
 
--- nothing stands at their paths or below them
-abbrev pub all_absent : Tree → List Placed → Bool
-all_absent tree files = list_all (λ file. not (stands tree file.path)) files
+abbrev pub first_of : Option Reason → Option Reason → Option Reason
+first_of None later = later
+first_of (Some reason) later = Some reason
+
+-- the first of the files that something stands in the way of; those before it count as the package's own
+abbrev pub first_clash : Tree → ByPath Pkg → Pkg → List Placed → Option Reason
+first_clash tree owners pkg [] = None
+first_clash tree owners pkg (file ∷ files) = first_of (in_the_way tree owners file.path) (first_clash tree (insert owners file.path pkg) pkg files)
+
+-- 1,048,576 paths
+abbrev pub most_paths : ℕ
+most_paths = 1048576
+
+-- the switch would own more paths than it may
+abbrev pub is_too_full : ByPath Pkg → List Placed → Bool
+is_too_full owners files = not (nat_le (len owners + length files) most_paths)
 
 -- no file stands at the path itself
 abbrev pub has_no_file : Tree → List ℕ → Bool

@@ -1,5 +1,6 @@
 -- Refusals, and what an early end of a run rests on. This project's own.
 use Rattle.std.specs.Prelude.{◌≡◌, ◌≤◌, ℕ, List, ◌++◌, codes, Result, Ok, Err}
+use Rattle.std.specs.List.{flat_map}
 use Rattle.opam_names.specs.Packages.{pkg_text}
 use Rattle.opam_names.specs.declared.packages.Pkg.{Pkg}
 use Rattle.outside_io.specs.Counts.{Rose}
@@ -23,9 +24,12 @@ not_built = record { cause = NotBuilt; err = codes "not built yet\n" }
 abbrev pub not_found : List ℕ → Refusal
 not_found path = record { cause = NotFound; err = path ++ codes ": not found\n" }
 
--- a package that is bound has no opam file
-abbrev pub not_in_repository : Pkg → Refusal
-not_in_repository pkg = record { cause = NotFound; err = pkg_text pkg ++ codes ": not in the repository\n" }
+abbrev pub unknown_line : Pkg → List ℕ
+unknown_line pkg = pkg_text pkg ++ codes ": not in the repository\n"
+
+-- packages that are bound have no opam file
+abbrev pub not_in_repository : List Pkg → Refusal
+not_in_repository pkgs = record { cause = NotFound; err = flat_map unknown_line pkgs }
 
 -- what a call that may end early gives, where the definition gives this
 abbrev pub Gives : {X Y : Type 0} → (X → Y) → Result X Stop → Result Y Refusal → Type 0

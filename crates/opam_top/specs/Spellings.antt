@@ -7,6 +7,10 @@ use Rattle.std.specs.Prelude.{ℕ, ◌+◌, List, [], ◌∷◌, ◌++◌, Bool,
 abbrev pub is_spelled : List ℕ → List ℕ → Bool
 is_spelled bytes text = bytes_eq bytes text || bytes_eq (bytes ++ 10 ∷ []) text
 
+-- a text without escapes, between quotes
+abbrev pub in_quotes : List ℕ → List ℕ
+in_quotes text = 34 ∷ text ++ 34 ∷ []
+
 abbrev pub onto_first : ℕ → List (List ℕ) → List (List ℕ)
 onto_first b [] = (b ∷ []) ∷ []
 onto_first b (text ∷ texts) = (b ∷ text) ∷ texts

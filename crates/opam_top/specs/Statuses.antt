@@ -1,5 +1,5 @@
 -- The number of a status, with which the program ends. This project's own.
-use Rattle.std.specs.Prelude.{ℕ, Bool, true, false}
+use Rattle.std.specs.Prelude.{ℕ}
 use Rattle.opam_top.specs.declared.status.Status.{Status}
 use Rattle.opam_top.specs.declared.status.Status.TheVariants.{Done, Findings, Words, NotFound, Locked, NoSolution, BadFile, Actions, HostFailed, DiskFailed, OutFailed, Damaged, NotBuilt, Memory}
 
@@ -18,20 +18,3 @@ number_of OutFailed = 42
 number_of Damaged = 50
 number_of NotBuilt = 70
 number_of Memory = 98
-
--- a change that was not stopped ends so
-abbrev pub is_proper : Status → Bool
-is_proper Done = true
-is_proper Findings = false
-is_proper Words = false
-is_proper NotFound = false
-is_proper Locked = false
-is_proper NoSolution = false
-is_proper BadFile = false
-is_proper Actions = false
-is_proper HostFailed = false
-is_proper DiskFailed = false
-is_proper OutFailed = false
-is_proper Damaged = false
-is_proper NotBuilt = true
-is_proper Memory = false

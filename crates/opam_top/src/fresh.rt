@@ -1,7 +1,10 @@
 // Whether a disk has no journal yet.
-ghost use Rattle.std.specs.Prelude.{◌≡◌, ◌&&◌, Some, IfOk, not};
+#![tactic(auto, using(crate::proofs::Passed::time_steps))]
+
+ghost use Rattle.std.specs.Prelude.{◌≤◌, ◌≡◌, ◌&&◌, Some, IfOk, not};
 ghost use Rattle.outside_io.specs.Counts.{Rose};
 ghost use Rattle.crash_disk.specs.Disks.{State, Counted};
+ghost use Rattle.opam_top.specs.Pasts.{Passes};
 ghost use Rattle.opam_top.specs.Journals.{looks_empty, stands};
 
 use crash_disk::{Disk, Look};
@@ -13,6 +16,7 @@ pub fn are_absent<D: Disk>(disk: &mut D, one: &RelPath, other: &RelPath) -> Resu
     ensures cause { Counted (D.faults disk.old) (D.faults disk.new) result }
     ensures held { D.held disk.new ≡ D.held disk.old }
     ensures same { D.told disk.new ≡ D.told disk.old }
+    ensures time { Passes (D.moment disk.old) (D.moment disk.new) (D.past disk.old) (D.past disk.new) }
     ensures told { (s : State) → D.told disk.old ≡ Some s → IfOk result (λ absent. absent ≡ (not (stands s.files one.now) && not (stands s.files other.now))) }
 {
     let none = is_absent(disk, one)?;
@@ -25,6 +29,7 @@ pub fn is_absent<D: Disk>(disk: &mut D, path: &RelPath) -> Result<bool, Failed>
     ensures cause { Counted (D.faults disk.old) (D.faults disk.new) result }
     ensures held { D.held disk.new ≡ D.held disk.old }
     ensures same { D.told disk.new ≡ D.told disk.old }
+    ensures time { Passes (D.moment disk.old) (D.moment disk.new) (D.past disk.old) (D.past disk.new) }
     ensures told { (s : State) → D.told disk.old ≡ Some s → IfOk result (λ absent. absent ≡ not (stands s.files path.now)) }
 {
     match disk.look(path) {

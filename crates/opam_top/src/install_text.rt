@@ -2,9 +2,9 @@
 ghost use Rattle.std.specs.Prelude.{◌≡◌, ◌++◌, IfOk, OnOk};
 ghost use Rattle.std.specs.List.{list_all};
 ghost use Rattle.opam_names.specs.Paths.{is_part};
-ghost use Rattle.opam_top.specs.InstallTexts.{are_items, further, in_quotes, install_text, is_item, is_item_byte, read_items, spaced};
+ghost use Rattle.opam_top.specs.InstallTexts.{are_items, further, install_text, is_item, is_item_byte, read_items, spaced};
 
-use crate::spelling::{is_spelling, quoted_texts};
+use crate::spelling::{is_spelling, push_in_quotes, quoted_texts};
 use opam_names::{Items, OutOfMemory};
 use std::alloc::Global;
 
@@ -101,14 +101,5 @@ fn push_further(text: &mut Vec<u8>, items: &[Items<u8>]) -> Result<(), OutOfMemo
         text.extend_from_slice(b" ")?;
         push_in_quotes(text, item.as_slice())?;
     }
-    Ok(())
-}
-
-fn push_in_quotes(text: &mut Vec<u8>, item: &[u8]) -> Result<(), OutOfMemory>
-    ensures { OnOk result (text.new.items ≡ text.old.items ++ in_quotes item.now) }
-{
-    text.extend_from_slice(b"\"")?;
-    text.extend_from_slice(item)?;
-    text.extend_from_slice(b"\"")?;
     Ok(())
 }

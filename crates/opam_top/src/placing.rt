@@ -1,117 +1,166 @@
 // Whether files can be placed, and in which order.
-ghost use Rattle.std.specs.Prelude.{◌≡◌, ◌≤◌, ◌&&◌, Some, IfOk, IsTrue, codes, length, not};
-ghost use Rattle.std.specs.List.{list_all, list_any};
+#![tactic(auto, using(crate::proofs::Passed::time_steps))]
+
+ghost use Rattle.std.specs.Prelude.{◌≡◌, ◌≢◌, ◌≤◌, true, false, None, Some, Ok, Err, IfOk, IsTrue, codes, is_some, length};
+ghost use Rattle.std.specs.Option.{option_copied};
+ghost use Rattle.std.specs.List.{list_all};
+ghost use Rattle.std.specs.FinMap.{get};
 ghost use Rattle.outside_io.specs.Counts.{Rose};
 ghost use Rattle.crash_disk.specs.Disks.{Counted, State};
+ghost use Rattle.opam_top.specs.Pasts.{Passes};
+ghost use Rattle.opam_top.specs.Commits.{is_among, paths_differ};
 ghost use Rattle.opam_top.specs.Journals.{stands};
-ghost use Rattle.opam_top.specs.Placements.{all_absent, are_apart, are_free, has_no_file, in_byte_order, looks_fileless, is_before, is_in_bin, meets, place_of};
+ghost use Rattle.opam_top.specs.Owners.{is_owned_in_bin, is_unowned, owners_of};
+ghost use Rattle.opam_top.specs.Placements.{first_clash, has_no_file, in_byte_order, in_the_way, is_before, is_bin_path, is_in_bin, looks_fileless, place_of, way_barred};
+ghost use Rattle.opam_top.specs.Refusals.{Causes};
+ghost use Rattle.opam_top.specs.Switches.{with_owner};
+ghost use Rattle.opam_top.specs.declared.stops.Refusal.{Refusal};
 
 use crate::fresh::is_absent;
+use crate::owners::owner_of;
 use crate::records::Placed;
+use crate::stops::Stop;
+use action_report::Reason;
 use crash_disk::{Disk, Look};
-use opam_names::{Items, OutOfMemory, RelPath};
+use opam_names::{Items, OutOfMemory, Pkg, RelPath};
 use outside_io::Failed;
 use std::alloc::Global;
 use std::cmp::Ordering;
 
-// Whether no file stands in the way of these, and none of them in that of another. `folder` is the path `bin`.
-pub fn are_placeable<D: Disk>(
+// The first of a package's files that something stands in the way of, as the reason why none is placed.
+pub fn first_in_the_way<D: Disk>(
+    alloc: Global,
     disk: &mut D,
-    folder: &RelPath,
+    owners: &[(RelPath, Pkg)],
+    pkg: &Pkg,
     files: &[Placed],
-) -> Result<bool, Failed>
-    requires folder { folder.now ≡ codes "bin" }
+) -> Result<Option<Reason>, Stop>
+    requires owned { IsTrue (list_all is_owned_in_bin owners.now) }
     requires paths { IsTrue (list_all is_in_bin files.now) }
-    ensures cause { Counted (D.faults disk.old) (D.faults disk.new) result }
-    ensures held { D.held disk.new ≡ D.held disk.old }
+    ensures cause { Causes Stop.Disk (D.faults disk.old) (D.faults disk.new) result }
+    ensures host { result ≢ Err Stop.Host }
+    ensures refusal { (refusal : Refusal) → result ≢ Err (Stop.Refused refusal) }
     ensures same { D.told disk.new ≡ D.told disk.old }
-    ensures told { (s : State) → D.told disk.old ≡ Some s → IfOk result (λ free. free ≡ are_free s.files files.now) }
+    ensures time { Passes (D.moment disk.old) (D.moment disk.new) (D.past disk.old) (D.past disk.new) }
+    ensures unowned { result ≡ Ok None → IsTrue (list_all (is_unowned (owners_of owners.now)) files.now) }
+    ensures apart { result ≡ Ok None → IsTrue (paths_differ files.now) }
+    ensures told { (s : State) → D.told disk.old ≡ Some s → IfOk result (λ reason. reason ≡ first_clash s.files (owners_of owners.now) pkg.now files.now) }
 {
-    if files.is_empty() {
-        return Ok(true);
+    let [first, ..] = files else {
+        return Ok(None);
+    };
+    if is_bin_a_file(alloc, disk)? {
+        return Ok(Some(barred(alloc, owners, &first.path)?));
     }
-    if !has_no_file(disk, folder)? {
-        return Ok(false);
-    }
-    are_placeable_in_folder(disk, files)
+    first_in_the_folder(alloc, disk, owners, pkg, files)
 }
 
-// Whether no file stands at the path itself.
-fn has_no_file<D: Disk>(disk: &mut D, path: &RelPath) -> Result<bool, Failed>
-    ensures cause { Counted (D.faults disk.old) (D.faults disk.new) result }
-    ensures held { D.held disk.new ≡ D.held disk.old }
+// Whether a file stands at `bin` itself.
+fn is_bin_a_file<D: Disk>(alloc: Global, disk: &mut D) -> Result<bool, Stop>
+    ensures cause { Causes Stop.Disk (D.faults disk.old) (D.faults disk.new) result }
+    ensures host { result ≢ Err Stop.Host }
+    ensures refusal { (refusal : Refusal) → result ≢ Err (Stop.Refused refusal) }
     ensures same { D.told disk.new ≡ D.told disk.old }
-    ensures told { (s : State) → D.told disk.old ≡ Some s → IfOk result (λ none. none ≡ has_no_file s.files path.now) }
+    ensures time { Passes (D.moment disk.old) (D.moment disk.new) (D.past disk.old) (D.past disk.new) }
+    ensures told { (s : State) → D.told disk.old ≡ Some s → IfOk result (λ file. file ≡ is_some (get s.files (codes "bin"))) }
 {
-    match disk.look(path) {
-        Ok(look) => Ok(is_no_file(look)),
-        Err(failed) => Err(failed),
-    }
-}
-
-fn is_no_file(look: Look) -> bool
-    ensures { result ≡ looks_fileless look }
-{
-    match look {
-        Look::File => false,
-        Look::Absent => true,
-        Look::Folder => true,
+    let folder = RelPath::fixed(alloc, "bin")?;
+    match disk.look(&folder) {
+        Ok(look) => Ok(look == Look::File),
+        Err(_) => Err(Stop::Disk),
     }
 }
 
-// The same by what stands at the files' paths and below them.
-fn are_placeable_in_folder<D: Disk>(disk: &mut D, files: &[Placed]) -> Result<bool, Failed>
-    ensures cause { Counted (D.faults disk.old) (D.faults disk.new) result }
-    ensures held { D.held disk.new ≡ D.held disk.old }
-    ensures same { D.told disk.new ≡ D.told disk.old }
-    ensures told { (s : State) → D.told disk.old ≡ Some s → IfOk result (λ free. free ≡ (all_absent s.files files.now && are_apart files.now)) }
+// The reason why a path is not free where a file stands at `bin`.
+fn barred(alloc: Global, owners: &[(RelPath, Pkg)], path: &RelPath) -> Result<Reason, OutOfMemory>
+    ensures { IfOk result (λ reason. Some reason ≡ way_barred path.now (get (owners_of owners.now) path.now) true) }
 {
-    let absent = all_are_absent(disk, files)?;
-    Ok(absent && no_two_meet(files))
+    match owner_of(owners, path) {
+        Some(owner) => Ok(Reason::Owned(path.copy(alloc)?, owner.copy(alloc)?)),
+        None => Ok(Reason::Foreign(path.copy(alloc)?)),
+    }
 }
 
-fn all_are_absent<D: Disk>(disk: &mut D, files: &[Placed]) -> Result<bool, Failed>
-    ensures cause { Counted (D.faults disk.old) (D.faults disk.new) result }
-    ensures held { D.held disk.new ≡ D.held disk.old }
+// The same where no file stands at `bin`.
+fn first_in_the_folder<D: Disk>(
+    alloc: Global,
+    disk: &mut D,
+    owners: &[(RelPath, Pkg)],
+    pkg: &Pkg,
+    files: &[Placed],
+) -> Result<Option<Reason>, Stop>
+    requires owned { IsTrue (list_all is_owned_in_bin owners.now) }
+    requires paths { IsTrue (list_all is_in_bin files.now) }
+    ensures cause { Causes Stop.Disk (D.faults disk.old) (D.faults disk.new) result }
+    ensures host { result ≢ Err Stop.Host }
+    ensures refusal { (refusal : Refusal) → result ≢ Err (Stop.Refused refusal) }
     ensures same { D.told disk.new ≡ D.told disk.old }
-    ensures told { (s : State) → D.told disk.old ≡ Some s → IfOk result (λ absent. absent ≡ all_absent s.files files.now) }
+    ensures time { Passes (D.moment disk.old) (D.moment disk.new) (D.past disk.old) (D.past disk.new) }
+    ensures unowned { result ≡ Ok None → IsTrue (list_all (is_unowned (owners_of owners.now)) files.now) }
+    ensures apart { result ≡ Ok None → IsTrue (paths_differ files.now) }
+    ensures told { (s : State) → D.told disk.old ≡ Some s → get s.files (codes "bin") ≡ None → IfOk result (λ reason. reason ≡ first_clash s.files (owners_of owners.now) pkg.now files.now) }
 {
-    for file in files {
-        if !is_absent(disk, &file.path)? {
-            return Ok(false);
+    for (place, file) in files.iter().enumerate() {
+        let before = &files[..place];
+        if let Some(reason) = in_the_way(alloc, disk, owners, pkg, before, &file.path)? {
+            return Ok(Some(reason));
         }
     }
-    Ok(true)
+    Ok(None)
 }
 
-fn no_two_meet(files: &[Placed]) -> bool
-    ensures { result ≡ are_apart files.now }
+// What stands in the way of a file at this path, where no file stands at `bin`, and where the files before it count as
+// the package's own.
+fn in_the_way<D: Disk>(
+    alloc: Global,
+    disk: &mut D,
+    owners: &[(RelPath, Pkg)],
+    pkg: &Pkg,
+    before: &[Placed],
+    path: &RelPath,
+) -> Result<Option<Reason>, Stop>
+    requires owned { IsTrue (list_all is_owned_in_bin owners.now) }
+    requires paths { IsTrue (list_all is_in_bin before.now) }
+    requires path { IsTrue (is_bin_path path.now) }
+    ensures cause { Causes Stop.Disk (D.faults disk.old) (D.faults disk.new) result }
+    ensures host { result ≢ Err Stop.Host }
+    ensures refusal { (refusal : Refusal) → result ≢ Err (Stop.Refused refusal) }
+    ensures same { D.told disk.new ≡ D.told disk.old }
+    ensures time { Passes (D.moment disk.old) (D.moment disk.new) (D.past disk.old) (D.past disk.new) }
+    ensures unowned { result ≡ Ok None → get (owners_of owners.now) path.now ≡ None }
+    ensures apart { result ≡ Ok None → is_among before.now path.now ≡ false }
+    ensures told { (s : State) → D.told disk.old ≡ Some s → get s.files (codes "bin") ≡ None → IfOk result (λ reason. reason ≡ in_the_way s.files (with_owner (owners_of owners.now) pkg.now before.now) path.now) }
 {
-    let mut rest = files;
-    while let [file, more @ ..] = rest {
-        if meets_any(&file.path, more) {
-            return false;
-        }
-        rest = more;
+    if let Some(owner) = owner_with(owners, pkg, before, path) {
+        return Ok(Some(Reason::Owned(path.copy(alloc)?, owner.copy(alloc)?)));
     }
-    true
-}
-
-fn meets_any(path: &RelPath, files: &[Placed]) -> bool
-    ensures { result ≡ list_any (λ other. meets path.now other.path) files.now }
-{
-    for file in files {
-        if do_meet(path, &file.path) {
-            return true;
-        }
+    match is_absent(disk, path) {
+        Ok(true) => Ok(None),
+        Ok(false) => Ok(Some(Reason::Foreign(path.copy(alloc)?))),
+        Err(_) => Err(Stop::Disk),
     }
-    false
 }
 
-fn do_meet(path: &RelPath, other: &RelPath) -> bool
-    ensures { result ≡ meets path.now other.now }
+// Who owns the path, where these files are the package's own.
+fn owner_with<'a>(
+    owners: &'a [(RelPath, Pkg)],
+    pkg: &'a Pkg,
+    files: &[Placed],
+    path: &RelPath,
+) -> Option<&'a Pkg>
+    ensures { option_copied result ≡ get (with_owner (owners_of owners.now) pkg.now files.now) path.now }
 {
-    path.as_str() == other.as_str() || path.above(other) || other.above(path)
+    if are_among(files, path) {
+        return Some(pkg);
+    }
+    owner_of(owners, path)
+}
+
+// Whether one of these files stands at the path.
+fn are_among(files: &[Placed], path: &RelPath) -> bool
+    ensures { result ≡ is_among files.now path.now }
+{
+    files.iter().any(|file| path.as_str() == file.path.as_str())
 }
 
 // The files in the order of their paths, byte by byte.

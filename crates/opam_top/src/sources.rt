@@ -1,5 +1,5 @@
 // From where the files of a package come.
-ghost use Rattle.std.specs.Prelude.{◌≡◌, ◌≤◌, ℕ, List, Option, Some, IfOk, IfSome, IsTrue, length, map, string_bytes};
+ghost use Rattle.std.specs.Prelude.{◌≡◌, ◌≤◌, ℕ, List, Option, Some, IfOk, IsTrue, length, map, string_bytes};
 ghost use Rattle.std.specs.List.{list_all};
 ghost use Rattle.std.specs.FinMap.{get};
 ghost use Rattle.outside_io.specs.Shops.{IsSeen, Told};
@@ -7,37 +7,38 @@ ghost use Rattle.opam_top.specs.InstallTexts.{is_item};
 ghost use Rattle.opam_top.specs.Placements.{bin_path, first_room, is_in_bin, paths_of, placed_from, source, total_bytes};
 
 use crate::records::Placed;
+use action_report::Reason;
 use opam_names::{Items, OutOfMemory, RelPath};
 use outside_io::{Job, Seen, Workshop};
 use std::alloc::Global;
 
 const FIRST_ROOM: u64 = 268435456;
 
-// The files of the items, or `None` where one cannot be read, or where they are too long.
+// The files of the items, or why the first that cannot be had is not.
 pub fn sources_of<W: Workshop>(
     alloc: Global,
     shop: &W,
     job: &Job,
     items: &[Items<u8>],
-) -> Result<Option<Items<Placed>>, OutOfMemory>
+) -> Result<Result<Items<Placed>, Reason>, OutOfMemory>
     requires { IsTrue (list_all is_item items.now) }
-    ensures paths { IfOk result (λ files. IfSome files (λ placed. paths_of placed ≡ map bin_path items.now)) }
-    ensures in_bin { IfOk result (λ files. IfSome files (λ placed. IsTrue (list_all is_in_bin placed))) }
-    ensures short { IfOk result (λ files. IfSome files (λ placed. total_bytes placed ≤ first_room)) }
+    ensures paths { IfOk result (λ files. IfOk files (λ placed. paths_of placed ≡ map bin_path items.now)) }
+    ensures in_bin { IfOk result (λ files. IfOk files (λ placed. IsTrue (list_all is_in_bin placed))) }
+    ensures short { IfOk result (λ files. IfOk files (λ placed. total_bytes placed ≤ first_room)) }
     ensures told { (told : Told) → W.told shop.now ≡ Some told → IfOk result (λ files. files ≡ placed_from (told.files job.now) first_room items.now) }
 {
     let mut files = Items::new(alloc);
     let mut room = FIRST_ROOM;
     for item in items {
         match source_of(alloc, shop, job, item.as_slice(), room)? {
-            None => return Ok(None),
-            Some(file) => {
+            Err(reason) => return Ok(Err(reason)),
+            Ok(file) => {
                 room -= file.bytes.len() as u64;
                 files.push(file)?;
             }
         }
     }
-    Ok(Some(files))
+    Ok(Ok(files))
 }
 
 // The file of an item, if it has at most `room` bytes.
@@ -47,10 +48,10 @@ fn source_of<W: Workshop>(
     job: &Job,
     item: &[u8],
     room: u64,
-) -> Result<Option<Placed>, OutOfMemory>
+) -> Result<Result<Placed, Reason>, OutOfMemory>
     requires { IsTrue (is_item item.now) }
-    ensures path { IfOk result (λ file. IfSome file (λ placed. placed.path ≡ bin_path item.now)) }
-    ensures short { IfOk result (λ file. IfSome file (λ placed. length placed.bytes ≤ room)) }
+    ensures path { IfOk result (λ file. IfOk file (λ placed. placed.path ≡ bin_path item.now)) }
+    ensures short { IfOk result (λ file. IfOk file (λ placed. length placed.bytes ≤ room)) }
     ensures told { (told : Told) → W.told shop.now ≡ Some told → IfOk result (λ file. file ≡ source item.now room (get (told.files job.now) item.now)) }
 {
     let path = path_of_item(alloc, item)?;
@@ -64,27 +65,27 @@ fn file_seen(
     item: &[u8],
     seen: Seen,
     room: u64,
-) -> Result<Option<Placed>, OutOfMemory>
+) -> Result<Result<Placed, Reason>, OutOfMemory>
     requires { IsTrue (is_item item.now) }
-    ensures path { IfOk result (λ file. IfSome file (λ placed. placed.path ≡ bin_path item.now)) }
-    ensures short { IfOk result (λ file. IfSome file (λ placed. length placed.bytes ≤ room)) }
+    ensures path { IfOk result (λ file. IfOk file (λ placed. placed.path ≡ bin_path item.now)) }
+    ensures short { IfOk result (λ file. IfOk file (λ placed. length placed.bytes ≤ room)) }
     ensures told { (stood : Option (Option (List ℕ))) → IsSeen stood room seen → IfOk result (λ file. file ≡ source item.now room stood) }
 {
     match seen {
         Seen::Bytes(bytes) => {
             if bytes.len() as u64 > room {
-                return Ok(None);
+                return Ok(Err(Reason::FilesTooLong));
             }
             let path = path_below_bin(alloc, item)?;
-            Ok(Some(Placed {
+            Ok(Ok(Placed {
                 path,
                 exec: true,
                 bytes,
             }))
         }
-        Seen::Absent => Ok(None),
-        Seen::TooLong => Ok(None),
-        Seen::Unreadable => Ok(None),
+        Seen::TooLong => Ok(Err(Reason::FilesTooLong)),
+        Seen::Absent => Ok(Err(Reason::Missing(path_of_item(alloc, item)?))),
+        Seen::Unreadable => Ok(Err(Reason::Unreadable(path_of_item(alloc, item)?))),
     }
 }
 

@@ -1,7 +1,7 @@
 // Texts between quotes, and canonical spellings.
-ghost use Rattle.std.specs.Prelude.{◌≡◌, ◌+◌, ◌≤◌, IfOk, length, take, drop};
+ghost use Rattle.std.specs.Prelude.{◌≡◌, ◌+◌, ◌≤◌, ◌++◌, IfOk, OnOk, length, take, drop};
 ghost use Rattle.std.specs.Option.{option_copied};
-ghost use Rattle.opam_top.specs.Spellings.{after_quote, before_quote, is_spelled, quoted};
+ghost use Rattle.opam_top.specs.Spellings.{after_quote, before_quote, in_quotes, is_spelled, quoted};
 
 use opam_names::{Items, OutOfMemory};
 use std::alloc::Global;
@@ -78,4 +78,14 @@ pub fn is_spelling(bytes: &[u8], text: &[u8]) -> bool
         [last] => *last == b'\n',
         _ => false,
     }
+}
+
+// Writes a text without escapes between quotes.
+pub fn push_in_quotes(text: &mut Vec<u8>, word: &[u8]) -> Result<(), OutOfMemory>
+    ensures { OnOk result (text.new.items ≡ text.old.items ++ in_quotes word.now) }
+{
+    text.extend_from_slice(b"\"")?;
+    text.extend_from_slice(word)?;
+    text.extend_from_slice(b"\"")?;
+    Ok(())
 }

@@ -1,8 +1,8 @@
 // Early ends of a run.
 ghost use Rattle.std.specs.Prelude.{◌≡◌, ◌++◌, IfOk, codes, string_bytes};
-ghost use Rattle.opam_names.specs.Packages.{pkg_text};
+ghost use Rattle.std.specs.List.{flat_map};
 ghost use Rattle.opam_top.specs.declared.stops.Stop.TheVariants.{Memory};
-ghost use Rattle.opam_top.specs.Refusals.{IsStopFor, not_built, not_found, not_in_repository, status_of};
+ghost use Rattle.opam_top.specs.Refusals.{IsStopFor, not_built, not_found, not_in_repository, status_of, unknown_line};
 
 use crate::Status;
 use opam_names::{Items, OutOfMemory, Pkg};
@@ -75,18 +75,29 @@ pub fn stop_not_found(alloc: Global, path: &str) -> Stop
     }
 }
 
-// The refusal of a package that has no opam file.
-pub fn stop_not_in_repository(alloc: Global, pkg: &Pkg) -> Stop
-    ensures { IsStopFor (not_in_repository pkg.now) result }
+// The refusal of packages that have no opam file.
+pub fn stop_not_in_repository(alloc: Global, pkgs: &[Pkg]) -> Stop
+    ensures { IsStopFor (not_in_repository pkgs.now) result }
 {
-    match text_of_unknown(alloc, pkg) {
+    match text_of_unknown(alloc, pkgs) {
         Ok(text) => stop_with(alloc, Cause::NotFound, text.as_bytes()),
         Err(OutOfMemory) => Stop::Memory,
     }
 }
 
-fn text_of_unknown(alloc: Global, pkg: &Pkg) -> Result<String, OutOfMemory>
-    ensures { IfOk result (λ text. string_bytes text ≡ pkg_text pkg.now ++ codes ": not in the repository\n") }
+fn text_of_unknown(alloc: Global, pkgs: &[Pkg]) -> Result<String, OutOfMemory>
+    ensures { IfOk result (λ text. string_bytes text ≡ flat_map unknown_line pkgs.now) }
+{
+    let mut text = String::new(alloc);
+    for pkg in pkgs {
+        let line = line_of_unknown(alloc, pkg)?;
+        text.push_str(line.as_str())?;
+    }
+    Ok(text)
+}
+
+fn line_of_unknown(alloc: Global, pkg: &Pkg) -> Result<String, OutOfMemory>
+    ensures { IfOk result (λ text. string_bytes text ≡ unknown_line pkg.now) }
 {
     let mut text = pkg.print(alloc)?;
     text.push_str(": not in the repository\n")?;

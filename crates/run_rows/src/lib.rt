@@ -2,4 +2,14 @@
 #![tactic(auto)]
 
 #[cfg(test)]
+mod empty_lock;
+#[cfg(test)]
+mod failures;
+#[cfg(test)]
+mod one_package;
+#[cfg(test)]
+mod packages;
+#[cfg(test)]
+mod repository;
+#[cfg(test)]
 mod rows;

@@ -1,0 +1,229 @@
+use crate::one_package::{A, OPAM, OPAM_PATH, RECORD};
+use crate::rows::{Row, ScriptRow, plain, run_row};
+use outside_io::{Ending, Fate};
+use std::test::Fail;
+
+const MAKE: &str = "opam-version: \"2.0\"\nbuild: [[\"make\"]]\n";
+
+const B_PATH: &str = "./packages/b/b.1/opam";
+
+const C_PATH: &str = "./packages/c/c.1/opam";
+
+// The record of b.1 with one file.
+const RECORD_B: &str =
+    "OPAMREC1\x01\0\x01b\0\x011\0\0\0\x14opam-version: \"2.0\"\n\0\0\0\x01\x01\0\x05bin/y\0\0\0\x03hi\n";
+
+// The second step of a.1 ends in 2.
+const BROKEN_A: ScriptRow<'static> = ScriptRow {
+    pkg: "a.1",
+    endings: &[Ending::Exit(0), Ending::Exit(2)],
+    files: &[("a.install", "bin: [\"x\"]\n"), ("x", "hi\n")],
+    unreadable: &[],
+};
+
+// b.1 places `bin/y`.
+const B: ScriptRow<'static> = ScriptRow {
+    pkg: "b.1",
+    endings: &[],
+    files: &[("b.install", "bin: [\"y\"]\n"), ("y", "hi\n")],
+    unreadable: &[],
+};
+
+// b.1 places `bin/x`.
+const B_AT_X: ScriptRow<'static> = ScriptRow {
+    pkg: "b.1",
+    endings: &[],
+    files: &[("b.install", "bin: [\"x\"]\n"), ("x", "other")],
+    unreadable: &[],
+};
+
+// The lock binds b.1 before a.1, and both are built.
+fn two_packages(name: &str) -> Row<'_> {
+    Row {
+        files: &[
+            ("l", "depends: [\"b\" {= \"1\"} \"a\" {= \"1\"}]\n"),
+            (OPAM_PATH, OPAM),
+            (B_PATH, OPAM),
+        ],
+        heard: &[("a.1", Fate::Built), ("b.1", Fate::Built)],
+        ..plain(name)
+    }
+}
+
+// a.1 fails at its first command, and c.1 is built.
+fn one_broken(name: &str) -> Row<'_> {
+    Row {
+        files: &[
+            ("l", "depends: [\"a\" {= \"1\"} \"c\" {= \"1\"}]\n"),
+            (OPAM_PATH, MAKE),
+            (C_PATH, MAKE),
+        ],
+        status: 31,
+        heard: &[
+            (
+                "a.1",
+                Fate::Stopped {
+                    step: 1,
+                    ending: Ending::Exit(2),
+                },
+            ),
+            ("c.1", Fate::Built),
+        ],
+        receipts: 1,
+        ..plain(name)
+    }
+}
+
+#[test]
+fn runs_of_two_packages(rt: HostRuntime) -> Result<(), Fail> {
+    let rows = [
+        Row {
+            scripts: &[A, B],
+            out: "installed a.1\ninstalled b.1\ndone: 2 installed, 0 removed, 0 failed, 0 aborted\n",
+            receipts: 2,
+            left: &[
+                ("bin/x", "hi\n", true),
+                ("bin/y", "hi\n", true),
+                (".opam-switch/journal/rec/1", RECORD, false),
+                (".opam-switch/journal/gate/1", "ok\n", false),
+                (".opam-switch/journal/rec/2", RECORD_B, false),
+                (".opam-switch/journal/gate/2", "ok\n", false),
+            ],
+            gone: &[".opam-switch/journal/rec/3", ".opam-switch/journal/gate/3"],
+            ..two_packages("two packages")
+        },
+        Row {
+            scripts: &[A, B],
+            files: &[
+                ("l", "depends: [\"a\" {= \"1\"} \"B\" {= \"2\"}]\n"),
+                (OPAM_PATH, OPAM),
+                ("./packages/B/B.2/opam", OPAM),
+            ],
+            out: "installed B.2\ninstalled a.1\ndone: 2 installed, 0 removed, 0 failed, 0 aborted\n",
+            heard: &[("B.2", Fate::Built), ("a.1", Fate::Built)],
+            receipts: 2,
+            left: &[(".opam-switch/journal/rec/2", RECORD, false)],
+            ..two_packages("a capital letter")
+        },
+        Row {
+            scripts: &[A, B_AT_X],
+            status: 31,
+            out: "installed a.1\nfailed b.1: bin/x is owned by a.1\ndone: 1 installed, 0 removed, 1 failed, 0 aborted\n",
+            receipts: 1,
+            left: &[
+                ("bin/x", "hi\n", true),
+                (".opam-switch/journal/rec/1", RECORD, false),
+            ],
+            gone: &[".opam-switch/journal/rec/2", ".opam-switch/journal/gate/2"],
+            ..two_packages("two packages with one file")
+        },
+        Row {
+            files: &[
+                ("l", "depends: [\"a\" {= \"1\"} \"b\" {= \"1\"}]\n"),
+                (OPAM_PATH, MAKE),
+                (B_PATH, OPAM),
+            ],
+            scripts: &[BROKEN_A, B],
+            out: "failed a.1: command 1 exited with 2\ninstalled b.1\ndone: 1 installed, 0 removed, 1 failed, 0 aborted\n",
+            heard: &[
+                (
+                    "a.1",
+                    Fate::Stopped {
+                        step: 1,
+                        ending: Ending::Exit(2),
+                    },
+                ),
+                ("b.1", Fate::Built),
+            ],
+            left: &[
+                ("bin/y", "hi\n", true),
+                (".opam-switch/journal/rec/1", RECORD_B, false),
+            ],
+            gone: &["bin/x", ".opam-switch/journal/rec/2"],
+            ..one_broken("a failure that takes no number")
+        },
+        Row {
+            files: &[
+                ("l", "depends: [\"a\" {= \"1\"} \"b\" {= \"1\"}]\n"),
+                (OPAM_PATH, MAKE),
+                (B_PATH, OPAM),
+            ],
+            scripts: &[BROKEN_A, B_AT_X],
+            out: "failed a.1: command 1 exited with 2\ninstalled b.1\ndone: 1 installed, 0 removed, 1 failed, 0 aborted\n",
+            heard: &[
+                (
+                    "a.1",
+                    Fate::Stopped {
+                        step: 1,
+                        ending: Ending::Exit(2),
+                    },
+                ),
+                ("b.1", Fate::Built),
+            ],
+            left: &[("bin/x", "other", true)],
+            ..one_broken("a failure that owns nothing")
+        },
+        Row {
+            scripts: &[BROKEN_A],
+            out: "failed a.1: command 1 exited with 2\ninstalled c.1\ndone: 1 installed, 0 removed, 1 failed, 0 aborted\n",
+            left: &[(".opam-switch/journal/gate/1", "ok\n", false)],
+            gone: &["bin/x", ".opam-switch/journal/gate/2"],
+            ..one_broken("a command that fails")
+        },
+    ];
+    for row in &rows {
+        run_row(&rt, row)?;
+    }
+    Ok(())
+}
+
+#[test]
+fn faults_among_two_packages(rt: HostRuntime) -> Result<(), Fail> {
+    let rows = [
+        Row {
+            scripts: &[BROKEN_A],
+            out_fails: &[1],
+            left: &[(".opam-switch/journal/gate/1", "ok\n", false)],
+            ..one_broken("a failure, and an output that fails")
+        },
+        Row {
+            scripts: &[A, B],
+            out_fails: &[1],
+            status: 42,
+            err: "output fault\n",
+            receipts: 2,
+            left: &[("bin/x", "hi\n", true), ("bin/y", "hi\n", true)],
+            ..two_packages("an output that fails after the commits")
+        },
+        Row {
+            scripts: &[A, B],
+            disk_fails: &[17],
+            status: 41,
+            out: "installed a.1\n",
+            err: "disk fault\n",
+            receipts: 1,
+            left: &[
+                ("bin/x", "hi\n", true),
+                (".opam-switch/journal/rec/1", RECORD, false),
+                (".opam-switch/journal/gate/1", "ok\n", false),
+            ],
+            gone: &["bin/y"],
+            ..two_packages("a disk that fails at the second gate")
+        },
+        Row {
+            scripts: &[A, B],
+            disk_fails: &[17],
+            out_fails: &[1],
+            status: 41,
+            err: "disk fault\n",
+            receipts: 1,
+            left: &[("bin/x", "hi\n", true)],
+            gone: &["bin/y"],
+            ..two_packages("a disk and an output that fail")
+        },
+    ];
+    for row in &rows {
+        run_row(&rt, row)?;
+    }
+    Ok(())
+}
