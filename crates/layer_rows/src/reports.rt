@@ -120,12 +120,24 @@ fn a_decision_has_its_line(rt: HostRuntime) -> Result<(), Fail> {
     for (decision, line) in decided(alloc)? {
         assert_eq!(rt; line_of(alloc, &decision)?.as_slice(), line.as_bytes());
     }
+    Ok(())
+}
+
+#[test]
+fn a_failed_step_has_its_line(rt: HostRuntime) -> Result<(), Fail> {
+    let alloc = rt.alloc();
     for (decision, line) in steps(alloc)? {
+        assert!(rt; !decision.is_done());
         assert_eq!(rt; line_of(alloc, &decision)?.as_slice(), line.as_bytes());
     }
+    Ok(())
+}
+
+#[test]
+fn a_failure_has_its_line(rt: HostRuntime) -> Result<(), Fail> {
+    let alloc = rt.alloc();
     for (reason, line) in failures(alloc)? {
         let decision = failed(alloc, reason)?;
-        assert!(rt; !decision.is_done());
         assert_eq!(rt; line_of(alloc, &decision)?.as_slice(), line.as_bytes());
     }
     Ok(())
