@@ -1,5 +1,5 @@
 use crate::one_package::{LOCK, OPAM_PATH, one_package};
-use crate::rows::{Row, ScriptRow, run_row, script};
+use crate::rows::{Row, run_row};
 use outside_io::{Ending, Fate};
 use std::alloc::Global;
 use std::test::Fail;
@@ -16,7 +16,6 @@ fn report(alloc: Global, reason: &str) -> Result<String, Fail> {
 
 #[test]
 fn commands_that_fail(rt: HostRuntime) -> Result<(), Fail> {
-    let good = Ending::Exit(0);
     let rows = [
         (0, Ending::NotPrepared, "preparation failed"),
         (1, Ending::Exit(2), "command 1 exited with 2"),
@@ -27,19 +26,16 @@ fn commands_that_fail(rt: HostRuntime) -> Result<(), Fail> {
         (2, Ending::NotStarted, "command 2 was not started"),
     ];
     for (step, ending, reason) in rows {
-        let endings: &[Ending] = match step {
-            0 => &[ending],
-            1 => &[good, ending],
-            _ => &[good, good, ending],
-        };
-        let out = report(rt.alloc(), reason)?;
+        let alloc = rt.alloc();
+        let mut endings = Vec::new(alloc);
+        for _ in 0..step {
+            endings.push(("a.1", Ending::Exit(0)))?;
+        }
+        endings.push(("a.1", ending))?;
+        let out = report(alloc, reason)?;
         let row = Row {
             files: &[("l", LOCK), (OPAM_PATH, TWO_COMMANDS)],
-            scripts: &[ScriptRow {
-                endings,
-                files: &[("a.install", "bin: [\"x\"]\n"), ("x", "hi\n")],
-                ..script("a.1")
-            }],
+            endings: endings.as_slice(),
             status: 31,
             out: out.as_str(),
             heard: &[("a.1", Fate::Stopped { step, ending })],
@@ -85,11 +81,12 @@ fn files_that_are_not_placed(rt: HostRuntime) -> Result<(), Fail> {
         let out = report(rt.alloc(), reason)?;
         let row = Row {
             disk: &[(foreign, "mine")],
-            scripts: &[ScriptRow {
-                files: &[("a.install", install), ("x", "hi\n"), ("y", "")],
-                unreadable: &["w"],
-                ..script("a.1")
-            }],
+            built: &[
+                ("a.1", "a.install", install),
+                ("a.1", "x", "hi\n"),
+                ("a.1", "y", ""),
+            ],
+            unreadable: &[("a.1", "w")],
             status: 31,
             out: out.as_str(),
             left: &[(foreign, "mine", false)],
@@ -106,10 +103,8 @@ fn install_texts_that_are_not_read(rt: HostRuntime) -> Result<(), Fail> {
     let alloc = rt.alloc();
     let out = report(alloc, "cannot read a.install")?;
     let row = Row {
-        scripts: &[ScriptRow {
-            unreadable: &["a.install"],
-            ..script("a.1")
-        }],
+        built: &[],
+        unreadable: &[("a.1", "a.install")],
         status: 31,
         out: out.as_str(),
         ..one_package("an install text that cannot be read")
@@ -118,10 +113,7 @@ fn install_texts_that_are_not_read(rt: HostRuntime) -> Result<(), Fail> {
     let long = "x".repeat(alloc, 1048577)?;
     let out = report(alloc, "a.install is too long")?;
     let row = Row {
-        scripts: &[ScriptRow {
-            files: &[("a.install", long.as_str())],
-            ..script("a.1")
-        }],
+        built: &[("a.1", "a.install", long.as_str())],
         status: 31,
         out: out.as_str(),
         ..one_package("an install text that is too long")

@@ -1,4 +1,4 @@
-use crate::rows::{Row, ScriptRow, plain, run_row, script};
+use crate::rows::{Row, plain, run_row};
 use outside_io::Fate;
 use std::test::Fail;
 
@@ -14,18 +14,11 @@ const INSTALLED: &str = "installed a.1\ndone: 1 installed, 0 removed, 0 failed, 
 pub const RECORD: &str =
     "OPAMREC1\x01\0\x01a\0\x011\0\0\0\x14opam-version: \"2.0\"\n\0\0\0\x01\x01\0\x05bin/x\0\0\0\x03hi\n";
 
-// a.1 places `bin/x`.
-pub const A: ScriptRow<'static> = ScriptRow {
-    pkg: "a.1",
-    endings: &[],
-    files: &[("a.install", "bin: [\"x\"]\n"), ("x", "hi\n")],
-    unreadable: &[],
-};
-
-// The lock binds a.1, which is built.
+// The lock binds a.1, which is built and places `bin/x`.
 pub fn one_package(name: &str) -> Row<'_> {
     Row {
         files: &[("l", LOCK), (OPAM_PATH, OPAM)],
+        built: &[("a.1", "a.install", "bin: [\"x\"]\n"), ("a.1", "x", "hi\n")],
         heard: &[("a.1", Fate::Built)],
         ..plain(name)
     }
@@ -36,7 +29,6 @@ fn runs_of_one_package(rt: HostRuntime) -> Result<(), Fail> {
     assert_eq!(rt; RECORD.len(), 58);
     let rows = [
         Row {
-            scripts: &[A],
             out: INSTALLED,
             receipts: 1,
             left: &[
@@ -48,6 +40,7 @@ fn runs_of_one_package(rt: HostRuntime) -> Result<(), Fail> {
             ..one_package("one package with one file")
         },
         Row {
+            built: &[],
             out: INSTALLED,
             receipts: 1,
             left: &[(".opam-switch/journal/gate/1", "ok\n", false)],
@@ -55,14 +48,11 @@ fn runs_of_one_package(rt: HostRuntime) -> Result<(), Fail> {
             ..one_package("one package without an install text")
         },
         Row {
-            scripts: &[ScriptRow {
-                files: &[
-                    ("a.install", "bin: [\"y\" \"x\"]"),
-                    ("x", "hi\n"),
-                    ("y", ""),
-                ],
-                ..script("a.1")
-            }],
+            built: &[
+                ("a.1", "a.install", "bin: [\"y\" \"x\"]"),
+                ("a.1", "x", "hi\n"),
+                ("a.1", "y", ""),
+            ],
             disk: &[("bin/z", "mine"), (".opam-switch/journal/gate/2", "ok\n")],
             out: INSTALLED,
             receipts: 1,
@@ -75,7 +65,6 @@ fn runs_of_one_package(rt: HostRuntime) -> Result<(), Fail> {
             ..one_package("two files beside another's, and an old gate")
         },
         Row {
-            scripts: &[A],
             host_fails: &[2],
             status: 40,
             err: "host fault\n",
@@ -84,7 +73,6 @@ fn runs_of_one_package(rt: HostRuntime) -> Result<(), Fail> {
             ..one_package("a host that fails at the second read")
         },
         Row {
-            scripts: &[A],
             out_fails: &[1],
             status: 42,
             err: "output fault\n",
@@ -111,7 +99,6 @@ fn commands_that_are_built(rt: HostRuntime) -> Result<(), Fail> {
     for text in texts {
         let row = Row {
             files: &[("l", LOCK), (OPAM_PATH, text)],
-            scripts: &[A],
             out: INSTALLED,
             receipts: 1,
             left: &[("bin/x", "hi\n", true)],
@@ -122,24 +109,36 @@ fn commands_that_are_built(rt: HostRuntime) -> Result<(), Fail> {
     Ok(())
 }
 
+// The disk fails at one call.
+fn disk_fault(calls: &[u64]) -> Row<'_> {
+    Row {
+        disk: &[("bin/z", "mine"), ("x", "mine")],
+        disk_fails: calls,
+        status: 41,
+        err: "disk fault\n",
+        left: &[("bin/z", "mine", false), ("x", "mine", false)],
+        ..one_package("a disk that fails at one call")
+    }
+}
+
 #[test]
-fn a_disk_that_fails_at_each_call(rt: HostRuntime) -> Result<(), Fail> {
-    for call in 1..12 {
+fn a_disk_that_fails_before_the_build(rt: HostRuntime) -> Result<(), Fail> {
+    for call in 1..3 {
+        let calls = [call];
         let row = Row {
-            disk: &[("bin/z", "mine"), ("x", "mine")],
-            scripts: &[A],
-            disk_fails: &[call],
-            status: 41,
-            err: "disk fault\n",
-            heard: if call < 3 {
-                &[]
-            } else {
-                &[("a.1", Fate::Built)]
-            },
-            left: &[("bin/z", "mine", false), ("x", "mine", false)],
-            ..one_package("a disk that fails at one call")
+            heard: &[],
+            ..disk_fault(&calls)
         };
         run_row(&rt, &row)?;
+    }
+    Ok(())
+}
+
+#[test]
+fn a_disk_that_fails_after_the_build(rt: HostRuntime) -> Result<(), Fail> {
+    for call in 3..12 {
+        let calls = [call];
+        run_row(&rt, &disk_fault(&calls))?;
     }
     Ok(())
 }

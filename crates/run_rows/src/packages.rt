@@ -1,5 +1,5 @@
-use crate::one_package::{A, OPAM, OPAM_PATH, RECORD};
-use crate::rows::{Row, ScriptRow, plain, run_row};
+use crate::one_package::{OPAM, OPAM_PATH, RECORD};
+use crate::rows::{Row, plain, run_row};
 use outside_io::{Ending, Fate};
 use std::test::Fail;
 
@@ -13,37 +13,19 @@ const C_PATH: &str = "./packages/c/c.1/opam";
 const RECORD_B: &str =
     "OPAMREC1\x01\0\x01b\0\x011\0\0\0\x14opam-version: \"2.0\"\n\0\0\0\x01\x01\0\x05bin/y\0\0\0\x03hi\n";
 
-// The second step of a.1 ends in 2.
-const BROKEN_A: ScriptRow<'static> = ScriptRow {
-    pkg: "a.1",
-    endings: &[Ending::Exit(0), Ending::Exit(2)],
-    files: &[("a.install", "bin: [\"x\"]\n"), ("x", "hi\n")],
-    unreadable: &[],
-};
-
-// b.1 places `bin/y`.
-const B: ScriptRow<'static> = ScriptRow {
-    pkg: "b.1",
-    endings: &[],
-    files: &[("b.install", "bin: [\"y\"]\n"), ("y", "hi\n")],
-    unreadable: &[],
-};
-
-// b.1 places `bin/x`.
-const B_AT_X: ScriptRow<'static> = ScriptRow {
-    pkg: "b.1",
-    endings: &[],
-    files: &[("b.install", "bin: [\"x\"]\n"), ("x", "other")],
-    unreadable: &[],
-};
-
-// The lock binds b.1 before a.1, and both are built.
+// The lock binds b.1 before a.1. Both are built, and they place `bin/x` and `bin/y`.
 fn two_packages(name: &str) -> Row<'_> {
     Row {
         files: &[
             ("l", "depends: [\"b\" {= \"1\"} \"a\" {= \"1\"}]\n"),
             (OPAM_PATH, OPAM),
             (B_PATH, OPAM),
+        ],
+        built: &[
+            ("a.1", "a.install", "bin: [\"x\"]\n"),
+            ("a.1", "x", "hi\n"),
+            ("b.1", "b.install", "bin: [\"y\"]\n"),
+            ("b.1", "y", "hi\n"),
         ],
         heard: &[("a.1", Fate::Built), ("b.1", Fate::Built)],
         ..plain(name)
@@ -58,6 +40,8 @@ fn one_broken(name: &str) -> Row<'_> {
             (OPAM_PATH, MAKE),
             (C_PATH, MAKE),
         ],
+        endings: &[("a.1", Ending::Exit(0)), ("a.1", Ending::Exit(2))],
+        built: &[("a.1", "a.install", "bin: [\"x\"]\n"), ("a.1", "x", "hi\n")],
         status: 31,
         heard: &[
             (
@@ -78,7 +62,6 @@ fn one_broken(name: &str) -> Row<'_> {
 fn runs_of_two_packages(rt: HostRuntime) -> Result<(), Fail> {
     let rows = [
         Row {
-            scripts: &[A, B],
             out: "installed a.1\ninstalled b.1\ndone: 2 installed, 0 removed, 0 failed, 0 aborted\n",
             receipts: 2,
             left: &[
@@ -93,7 +76,6 @@ fn runs_of_two_packages(rt: HostRuntime) -> Result<(), Fail> {
             ..two_packages("two packages")
         },
         Row {
-            scripts: &[A, B],
             files: &[
                 ("l", "depends: [\"a\" {= \"1\"} \"B\" {= \"2\"}]\n"),
                 (OPAM_PATH, OPAM),
@@ -106,7 +88,12 @@ fn runs_of_two_packages(rt: HostRuntime) -> Result<(), Fail> {
             ..two_packages("a capital letter")
         },
         Row {
-            scripts: &[A, B_AT_X],
+            built: &[
+                ("a.1", "a.install", "bin: [\"x\"]\n"),
+                ("a.1", "x", "hi\n"),
+                ("b.1", "b.install", "bin: [\"x\"]\n"),
+                ("b.1", "x", "other"),
+            ],
             status: 31,
             out: "installed a.1\nfailed b.1: bin/x is owned by a.1\ndone: 1 installed, 0 removed, 1 failed, 0 aborted\n",
             receipts: 1,
@@ -123,7 +110,12 @@ fn runs_of_two_packages(rt: HostRuntime) -> Result<(), Fail> {
                 (OPAM_PATH, MAKE),
                 (B_PATH, OPAM),
             ],
-            scripts: &[BROKEN_A, B],
+            built: &[
+                ("a.1", "a.install", "bin: [\"x\"]\n"),
+                ("a.1", "x", "hi\n"),
+                ("b.1", "b.install", "bin: [\"y\"]\n"),
+                ("b.1", "y", "hi\n"),
+            ],
             out: "failed a.1: command 1 exited with 2\ninstalled b.1\ndone: 1 installed, 0 removed, 1 failed, 0 aborted\n",
             heard: &[
                 (
@@ -148,7 +140,12 @@ fn runs_of_two_packages(rt: HostRuntime) -> Result<(), Fail> {
                 (OPAM_PATH, MAKE),
                 (B_PATH, OPAM),
             ],
-            scripts: &[BROKEN_A, B_AT_X],
+            built: &[
+                ("a.1", "a.install", "bin: [\"x\"]\n"),
+                ("a.1", "x", "hi\n"),
+                ("b.1", "b.install", "bin: [\"x\"]\n"),
+                ("b.1", "x", "other"),
+            ],
             out: "failed a.1: command 1 exited with 2\ninstalled b.1\ndone: 1 installed, 0 removed, 1 failed, 0 aborted\n",
             heard: &[
                 (
@@ -164,7 +161,6 @@ fn runs_of_two_packages(rt: HostRuntime) -> Result<(), Fail> {
             ..one_broken("a failure that owns nothing")
         },
         Row {
-            scripts: &[BROKEN_A],
             out: "failed a.1: command 1 exited with 2\ninstalled c.1\ndone: 1 installed, 0 removed, 1 failed, 0 aborted\n",
             left: &[(".opam-switch/journal/gate/1", "ok\n", false)],
             gone: &["bin/x", ".opam-switch/journal/gate/2"],
@@ -181,13 +177,11 @@ fn runs_of_two_packages(rt: HostRuntime) -> Result<(), Fail> {
 fn faults_among_two_packages(rt: HostRuntime) -> Result<(), Fail> {
     let rows = [
         Row {
-            scripts: &[BROKEN_A],
             out_fails: &[1],
             left: &[(".opam-switch/journal/gate/1", "ok\n", false)],
             ..one_broken("a failure, and an output that fails")
         },
         Row {
-            scripts: &[A, B],
             out_fails: &[1],
             status: 42,
             err: "output fault\n",
@@ -196,7 +190,6 @@ fn faults_among_two_packages(rt: HostRuntime) -> Result<(), Fail> {
             ..two_packages("an output that fails after the commits")
         },
         Row {
-            scripts: &[A, B],
             disk_fails: &[17],
             status: 41,
             out: "installed a.1\n",
@@ -211,7 +204,6 @@ fn faults_among_two_packages(rt: HostRuntime) -> Result<(), Fail> {
             ..two_packages("a disk that fails at the second gate")
         },
         Row {
-            scripts: &[A, B],
             disk_fails: &[17],
             out_fails: &[1],
             status: 41,

@@ -1,7 +1,5 @@
 use crate::one_package::{LOCK, OPAM, OPAM_PATH};
 use crate::rows::{Row, plain, run_row};
-use outside_io::Fate;
-use std::alloc::Global;
 use std::test::Fail;
 
 const LOCK_OF_THREE: &str = "depends: [\"a\" {= \"1\"} \"b\" {= \"1\"} \"c\" {= \"1\"}]\n";
@@ -109,38 +107,6 @@ fn locks_of_many_packages(rt: HostRuntime) -> Result<(), Fail> {
         status: 70,
         err: "not built yet\n",
         ..plain("65 packages")
-    };
-    run_row(&rt, &row)
-}
-
-// An opam file with one command, which is one word of this length.
-fn opam_with(alloc: Global, length: usize) -> Result<String, Fail> {
-    let mut text = String::from_str(alloc, "opam-version: \"2.0\"\nbuild: [[\"")?;
-    text.push_str("x".repeat(alloc, length)?.as_str())?;
-    text.push_str("\"]]\n")?;
-    Ok(text)
-}
-
-// An opam file of 1 MiB is read, and a longer one not.
-#[test]
-fn opam_files_that_are_long(rt: HostRuntime) -> Result<(), Fail> {
-    let alloc = rt.alloc();
-    let text = opam_with(alloc, 1048542)?;
-    assert_eq!(rt; text.len(), 1048576);
-    let row = Row {
-        files: &[("l", LOCK), (OPAM_PATH, text.as_str())],
-        out: "installed a.1\ndone: 1 installed, 0 removed, 0 failed, 0 aborted\n",
-        heard: &[("a.1", Fate::Built)],
-        receipts: 1,
-        ..plain("an opam file of 1 MiB")
-    };
-    run_row(&rt, &row)?;
-    let text = opam_with(alloc, 1048543)?;
-    let row = Row {
-        files: &[("l", LOCK), (OPAM_PATH, text.as_str())],
-        status: 70,
-        err: "not built yet\n",
-        ..plain("an opam file that is too long")
     };
     run_row(&rt, &row)
 }

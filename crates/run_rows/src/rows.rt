@@ -8,23 +8,18 @@ use std::sync::{Arc, Wait};
 use std::test::Fail;
 use std::thread::Threads;
 
-// What becomes of a package: the endings of its steps, and what stands in its build folder.
-#[derive(Drop)]
-pub struct ScriptRow<'a> {
-    pub pkg: &'a str,
-    pub endings: &'a [Ending],
-    pub files: &'a [(&'a str, &'a str)],
-    pub unreadable: &'a [&'a str],
-}
-
-// A run: the words, what the devices hold, which of their calls fail, and what is to come of it.
+// A run: the words, what the devices hold, which of their calls fail, and what is to come of it. The endings of steps,
+// in their order, the files of a build folder, and those of them that cannot be read, each stand with their package,
+// which is a.1 or b.1.
 #[derive(Drop)]
 pub struct Row<'a> {
     pub name: &'a str,
     pub words: &'a [&'a str],
     pub files: &'a [(&'a str, &'a str)],
     pub disk: &'a [(&'a str, &'a str)],
-    pub scripts: &'a [ScriptRow<'a>],
+    pub endings: &'a [(&'a str, Ending)],
+    pub built: &'a [(&'a str, &'a str, &'a str)],
+    pub unreadable: &'a [(&'a str, &'a str)],
     pub host_fails: &'a [u64],
     pub disk_fails: &'a [u64],
     pub out_fails: &'a [u64],
@@ -37,16 +32,6 @@ pub struct Row<'a> {
     pub gone: &'a [&'a str],
 }
 
-// All steps of the package end well, and its build folder is empty.
-pub fn script(pkg: &str) -> ScriptRow<'_> {
-    ScriptRow {
-        pkg,
-        endings: &[],
-        files: &[],
-        unreadable: &[],
-    }
-}
-
 // The words install the lock `l`, nothing stands anywhere, and no device fails.
 pub fn plain(name: &str) -> Row<'_> {
     Row {
@@ -54,7 +39,9 @@ pub fn plain(name: &str) -> Row<'_> {
         words: &["install", "--lock-file", "l"],
         files: &[],
         disk: &[],
-        scripts: &[],
+        endings: &[],
+        built: &[],
+        unreadable: &[],
         host_fails: &[],
         disk_fails: &[],
         out_fails: &[],
@@ -109,44 +96,53 @@ fn disk_of(alloc: Global, row: &Row) -> Result<MemoryDisk, Fail> {
     Ok(MemoryDisk::new(alloc, files, row.disk_fails.to_vec(alloc)?, false))
 }
 
-fn script_of(alloc: Global, row: &ScriptRow) -> Result<Script, Fail> {
+fn endings_of(alloc: Global, row: &Row, pkg: &str) -> Result<Items<Ending>, Fail> {
+    let mut endings = Items::new(alloc);
+    for (owner, ending) in row.endings {
+        if *owner == pkg {
+            endings.push(*ending)?;
+        }
+    }
+    Ok(endings)
+}
+
+fn build_folder_of(
+    alloc: Global,
+    row: &Row,
+    pkg: &str,
+) -> Result<Items<(Text, Option<Items<u8>>)>, Fail> {
     let mut files = Items::new(alloc);
-    for (path, text) in row.files {
-        let content = Items::from_slice(alloc, text.as_bytes())?;
-        files.push((Text::from_str(alloc, path)?, Some(content)))?;
+    for (owner, path, text) in row.built {
+        if *owner == pkg {
+            let content = Items::from_slice(alloc, text.as_bytes())?;
+            files.push((Text::from_str(alloc, path)?, Some(content)))?;
+        }
     }
-    for path in row.unreadable {
-        files.push((Text::from_str(alloc, path)?, None))?;
+    for (owner, path) in row.unreadable {
+        if *owner == pkg {
+            files.push((Text::from_str(alloc, path)?, None))?;
+        }
     }
+    Ok(files)
+}
+
+fn script_of(alloc: Global, row: &Row, pkg: &str) -> Result<Script, Fail> {
     Ok(Script {
-        pkg: package_of(alloc, row.pkg)?,
-        endings: Items::from_slice(alloc, row.endings)?,
-        files,
+        pkg: package_of(alloc, pkg)?,
+        endings: endings_of(alloc, row, pkg)?,
+        files: build_folder_of(alloc, row, pkg)?,
     })
 }
 
-// A row tells of two packages at most.
 fn shop_of(alloc: Global, row: &Row) -> Result<ScriptShop, Fail> {
-    let mut scripts = Vec::new(alloc);
-    match row.scripts {
-        [] => {}
-        [one] => {
-            let one = script_of(alloc, one)?;
-            if !one.is_well() {
-                return Err("a script has an ending that cannot be")?;
-            }
-            scripts.push(one)?;
-        }
-        [one, other, ..] => {
-            let one = script_of(alloc, one)?;
-            let other = script_of(alloc, other)?;
-            if !one.is_well() || !other.is_well() {
-                return Err("a script has an ending that cannot be")?;
-            }
-            scripts.push(one)?;
-            scripts.push(other)?;
-        }
+    let one = script_of(alloc, row, "a.1")?;
+    let other = script_of(alloc, row, "b.1")?;
+    if !one.is_well() || !other.is_well() {
+        return Err("a script has an ending that cannot be")?;
     }
+    let mut scripts = Vec::new(alloc);
+    scripts.push(one)?;
+    scripts.push(other)?;
     Ok(ScriptShop::new(scripts))
 }
 
