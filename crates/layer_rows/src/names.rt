@@ -1,4 +1,5 @@
-use opam_names::{Name, Pkg, ReadFault, RelPath, Version};
+use opam_names::{Name, Pkg, ReadFault, RelPath, Version, text_order};
+use std::cmp::Ordering;
 use std::test::Fail;
 
 #[test]
@@ -68,12 +69,57 @@ fn paths_are_read(rt: HostRuntime) -> Result<(), Fail> {
         let path = RelPath::read(alloc, text.as_bytes())?;
         assert_eq!(rt; above.above(&path), is_below, "a/b above {text}");
     }
-    for text in ["", "a//b", "../x", "/x", "a/.", "x/", "a\0"] {
+    for (text, place) in [
+        ("", 0),
+        ("a//b", 2),
+        ("../x", 2),
+        ("/x", 0),
+        ("a/.", 3),
+        ("x/", 2),
+        ("a\0", 1),
+    ] {
         assert!(rt; text.len() < 1000);
         match RelPath::read(alloc, text.as_bytes()) {
-            Err(ReadFault::Bad { .. }) => {}
+            Err(ReadFault::Bad { at }) => assert_eq!(rt; at, place, "the path {text}"),
             _ => panic!(rt; "the path {text} is read"),
         }
+    }
+    Ok(())
+}
+
+#[test]
+fn versions_are_ordered(rt: HostRuntime) -> Result<(), Fail> {
+    let alloc = rt.alloc();
+    for (first, second, order) in [
+        ("1.0~rc1", "1.0", Ordering::Less),
+        ("1.0", "1.00", Ordering::Equal),
+        ("1.00", "1.0a", Ordering::Less),
+        ("1.0a", "1.0+", Ordering::Less),
+        ("1.10", "1.9", Ordering::Greater),
+        ("1.0~~", "1.0~", Ordering::Less),
+        ("0a", "a", Ordering::Less),
+        ("a", "a0", Ordering::Equal),
+        ("2.0", "10", Ordering::Less),
+        (
+            "1.99999999999999999999",
+            "1.100000000000000000000",
+            Ordering::Less,
+        ),
+    ] {
+        assert!(rt; first.len() < 1000 && second.len() < 1000);
+        let version = Version::read(alloc, first.as_bytes())?;
+        let other = Version::read(alloc, second.as_bytes())?;
+        assert_eq!(rt; version.order(&other), order, "{first} and {second}");
+        assert_eq!(rt;
+            other.order(&version),
+            order.reverse(),
+            "{second} and {first}"
+        );
+        assert_eq!(rt;
+            text_order(first, second),
+            order,
+            "the texts {first} and {second}"
+        );
     }
     Ok(())
 }

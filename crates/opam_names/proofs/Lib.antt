@@ -5,4 +5,8 @@ pub mod Ends
 pub mod Dots
 pub mod Characters
 pub mod Missing
+pub mod Orders
+pub mod RunCuts
+pub mod OrderTotal
+pub mod OrderLaws
 pub mod Places

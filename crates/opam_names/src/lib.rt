@@ -5,7 +5,9 @@
 mod cut;
 mod fault;
 mod items;
+mod laws;
 mod names;
+mod order;
 mod packages;
 mod paths;
 mod text;
@@ -13,7 +15,12 @@ mod versions;
 
 pub use fault::{OutOfMemory, ReadFault};
 pub use items::Items;
+pub use laws::{
+    equal_versions_differ_in_zeros, first_difference_decides, leading_zeros_do_not_count,
+    runs_are_cut, tilde_comes_first, versions_are_ordered,
+};
 pub use names::Name;
+pub use order::text_order;
 pub use packages::Pkg;
 pub use paths::RelPath;
 pub use text::Text;

@@ -10,6 +10,9 @@ use crate::{OutOfMemory, ReadFault};
 use std::alloc::Global;
 use std::marker::Model;
 
+// In bytes.
+const PATH_LIMIT: usize = 1024;
+
 /// A path below a folder: text without a zero byte, 1 to 1,024 bytes, of parts joined by `/`, none of them empty, `.`
 /// or `..`.
 #[derive(Drop)]
@@ -69,7 +72,7 @@ impl RelPath {
         ensures ok { IfOk result (λ path. path ≡ joined self.now below.now) }
         ensures err { IfErr result (λ fault. IsJoinFault (joined self.now below.now) fault) }
     {
-        if self.inner.len() + below.inner.len() >= 1024 {
+        if self.inner.len() + below.inner.len() >= PATH_LIMIT {
             return Err(ReadFault::Bad { at: 1024 });
         }
         Ok(RelPath {

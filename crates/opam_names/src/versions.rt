@@ -2,11 +2,14 @@
 ghost use Rattle.std.specs.Prelude.{◌≡◌, ◌<◌, ◌^◌, ◌==◌, ◌↔◌, IfOk, IfErr, IsTrue, length, string_bytes};
 ghost use Rattle.std.specs.List.{list_all, take_while};
 ghost use Rattle.opam_names.specs.Names.{IsVersion, is_version_byte};
+ghost use Rattle.opam_names.specs.Orders.{text_order};
 ghost use Rattle.opam_names.specs.Faults.{IsFaultOf, IsLongestBegin};
 
 use crate::names::name_byte;
+use crate::order::text_order;
 use crate::{OutOfMemory, ReadFault};
 use std::alloc::Global;
+use std::cmp::Ordering;
 use std::marker::Model;
 
 /// The version of a package: a text of letters, digits, `-`, `_`, `+`, `.` and `~`, not empty, at most 120 bytes (opam
@@ -63,6 +66,14 @@ impl Version {
         Ok(Version {
             inner: String::from_str(alloc, self.inner.as_str())?,
         })
+    }
+
+    /// The order of versions, by their texts (opam manual, file format: version ordering). It is no `Ord`, since `1.0`
+    /// and `1.00` are equal in it and are two versions.
+    pub fn order(&self, other: &Version) -> Ordering
+        ensures { result ≡ text_order self.now other.now }
+    {
+        text_order(self.inner.as_str(), other.inner.as_str())
     }
 }
 

@@ -10,5 +10,5 @@ invariant_of-result c =
     let below : IsRelative c.as_str-2.result.now = subst IsRelative (sym c.as_str-2.ensures.value) c.below.invariant in
     let first = ap length c.as_str.ensures.value in
     let second = ap length c.as_str-2.ensures.value in
-    let short : length c.as_str.result.now + length c.as_str-2.result.now < 1024 = omega (arith, first, second, c.len.ensures, c.len-2.ensures, c.if-len-ge1024.false) in
+    let short : length c.as_str.result.now + length c.as_str-2.result.now < 1024 = omega (arith, first, second, c.len.ensures, c.len-2.ensures, c.if-len-ge-PATH_LIMIT.false) in
     subst IsRelative (sym e) (joined_relative c.as_str.result.now c.as_str-2.result.now above below short)
