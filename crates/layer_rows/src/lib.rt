@@ -9,3 +9,5 @@ mod devices;
 mod names;
 #[cfg(test)]
 mod reports;
+#[cfg(test)]
+mod words;

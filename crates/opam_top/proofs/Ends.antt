@@ -10,9 +10,8 @@ use Rattle.action_report.specs.declared.decision.Decision.{Decision}
 use Rattle.outside_io.specs.Counts.{Quiet, Rose}
 use Rattle.outside_io.specs.Sinks.{Got, GotPrefix}
 use Rattle.crash_disk.specs.Disks.{State, Tree}
-use Rattle.opam_top.specs.Answers.{IsHalted, IsRunOf, LeftBy, Outside, changed, goes_through, of_front, out_at_end, run, status_at_end, status_by, with_output}
+use Rattle.opam_top.specs.Answers.{IsHalted, IsRunOf, LeftBy, Outside, changed, goes_through, of_front, out_at_end, status_at_end, status_by, with_output}
 use Rattle.opam_top.specs.Changes.{AreReceipts, IsPartOf, Says, Stands, Tracks, AreDated}
-use Rattle.opam_top.specs.Fronts.{front}
 use Rattle.opam_top.specs.Outcomes.{Outcome, outcome}
 use Rattle.opam_top.specs.Refusals.{Gives, status_of}
 use Rattle.opam_top.specs.Switches.{empty_switch}
@@ -49,10 +48,10 @@ leaves_by : (o : Outcome) (start : Tree) (disk : Option State) → Stands disk o
 leaves_by o start disk stands =
     let leaves = stands.2 in (stands.0, stands.1, record { journal = λ whole. leaves.journal; others = leaves.others; idle = leaves.idle })
 
-pub run_whole : (words : List (List ℕ)) (outside : Outside) (members : List Member) (result : Result (Unit {0}) Stop) (progress : Progress) (disk : Option State) → front words outside.files outside.disk.files ≡ Ok members → (result ≡ Err Host → ⊥) → ((refusal : Refusal) → result ≡ Err (Refused refusal) → ⊥)
+pub run_whole : (answer : Result (List Member) Refusal) (outside : Outside) (members : List Member) (result : Result (Unit {0}) Stop) (progress : Progress) (disk : Option State) → answer ≡ Ok members → (result ≡ Err Host → ⊥) → ((refusal : Refusal) → result ≡ Err (Refused refusal) → ⊥)
     → goes_through result ≡ true → OnOk result (Tracks progress (outcome outside.shop (empty_switch outside.disk.files) members)) → OnOk result (Stands disk (outcome outside.shop (empty_switch outside.disk.files) members) outside.disk.files)
-    → OnOk result (progress.heard.items ≡ (outcome outside.shop (empty_switch outside.disk.files) members).heard) → IsRunOf (run words outside) outside.disk.files result progress disk
-run_whole words outside members (Ok x) progress disk is host refusal goes tracks stands heard =
+    → OnOk result (progress.heard.items ≡ (outcome outside.shop (empty_switch outside.disk.files) members).heard) → IsRunOf (of_front answer outside) outside.disk.files result progress disk
+run_whole answer outside members (Ok x) progress disk is host refusal goes tracks stands heard =
     let o = outcome outside.shop (empty_switch outside.disk.files) members in
     let P : Result (List Member) Refusal → Type 0 = λ f. IsRunOf {T = Unit {0}} (of_front f outside) outside.disk.files (Ok x) progress disk in
     subst P (sym is) (record {
@@ -63,17 +62,17 @@ run_whole words outside members (Ok x) progress disk is host refusal goes tracks
       number = tracks.number;
       left = leaves_by o outside.disk.files disk stands;
     })
-run_whole words outside members (Err Host) progress disk is host refusal goes tracks stands heard = absurd (host refl)
-run_whole words outside members (Err Disk) progress disk is host refusal goes tracks stands heard = absurd (cc)
-run_whole words outside members (Err NoMemory) progress disk is host refusal goes tracks stands heard = absurd (cc)
-run_whole words outside members (Err (Refused r)) progress disk is host refusal goes tracks stands heard = absurd (refusal r refl)
+run_whole answer outside members (Err Host) progress disk is host refusal goes tracks stands heard = absurd (host refl)
+run_whole answer outside members (Err Disk) progress disk is host refusal goes tracks stands heard = absurd (cc)
+run_whole answer outside members (Err NoMemory) progress disk is host refusal goes tracks stands heard = absurd (cc)
+run_whole answer outside members (Err (Refused r)) progress disk is host refusal goes tracks stands heard = absurd (refusal r refl)
 
-pub run_refused : (words : List (List ℕ)) (outside : Outside) (stop : Stop) (progress : Progress) (disk : Option State) → Gives {X = List Member} (λ (members : List Member). members) (Err stop) (front words outside.files outside.disk.files)
-    → goes_through {T = Unit {0}} (Err stop) ≡ true → progress.decisions.items ≡ [] → progress.heard.items ≡ [] → progress.receipts.items ≡ [] → disk ≡ Some outside.disk → IsRunOf {T = Unit {0}} (run words outside) outside.disk.files (Err stop) progress disk
-run_refused words outside Host progress disk gives goes decisions heard receipts same = absurd (cc)
-run_refused words outside Disk progress disk gives goes decisions heard receipts same = absurd (cc)
-run_refused words outside NoMemory progress disk gives goes decisions heard receipts same = absurd (cc)
-run_refused words outside (Refused refusal) progress disk gives goes decisions heard receipts same =
+pub run_refused : (answer : Result (List Member) Refusal) (outside : Outside) (stop : Stop) (progress : Progress) (disk : Option State) → Gives {X = List Member} (λ (members : List Member). members) (Err stop) answer
+    → goes_through {T = Unit {0}} (Err stop) ≡ true → progress.decisions.items ≡ [] → progress.heard.items ≡ [] → progress.receipts.items ≡ [] → disk ≡ Some outside.disk → IsRunOf {T = Unit {0}} (of_front answer outside) outside.disk.files (Err stop) progress disk
+run_refused answer outside Host progress disk gives goes decisions heard receipts same = absurd (cc)
+run_refused answer outside Disk progress disk gives goes decisions heard receipts same = absurd (cc)
+run_refused answer outside NoMemory progress disk gives goes decisions heard receipts same = absurd (cc)
+run_refused answer outside (Refused refusal) progress disk gives goes decisions heard receipts same =
     let P : Result (List Member) Refusal → Type 0 = λ f. IsRunOf {T = Unit {0}} (of_front f outside) outside.disk.files (Err (Refused refusal)) progress disk in
     subst P (sym gives) (record {
       status = refl;
@@ -84,12 +83,12 @@ run_refused words outside (Refused refusal) progress disk gives goes decisions h
       left = (outside.disk, same, record { journal = λ whole. absurd (cc); others = λ q apart. refl; idle = λ none. refl });
     })
 
-pub part_of_run : (words : List (List ℕ)) (outside : Outside) (members : List Member) (progress : Progress) → front words outside.files outside.disk.files ≡ Ok members → IsPartOf progress (outcome outside.shop (empty_switch outside.disk.files) members) → IsPartOf progress (run words outside).change
-part_of_run words outside members progress is part =
+pub part_of_run : (answer : Result (List Member) Refusal) (outside : Outside) (members : List Member) (progress : Progress) → answer ≡ Ok members → IsPartOf progress (outcome outside.shop (empty_switch outside.disk.files) members) → IsPartOf progress (of_front answer outside).change
+part_of_run answer outside members progress is part =
     let P : Result (List Member) Refusal → Type 0 = λ f. IsPartOf progress (of_front f outside).change in subst P (sym is) part
 
-pub dated_of_run : (words : List (List ℕ)) (outside : Outside) (members : List Member) (past : ℕ → Option State) (receipts : List Receipt) → front words outside.files outside.disk.files ≡ Ok members → AreDated past (outcome outside.shop (empty_switch outside.disk.files) members).records receipts → AreDated past (run words outside).change.records receipts
-dated_of_run words outside members past receipts is dated =
+pub dated_of_run : (answer : Result (List Member) Refusal) (outside : Outside) (members : List Member) (past : ℕ → Option State) (receipts : List Receipt) → answer ≡ Ok members → AreDated past (outcome outside.shop (empty_switch outside.disk.files) members).records receipts → AreDated past (of_front answer outside).change.records receipts
+dated_of_run answer outside members past receipts is dated =
     let P : Result (List Member) Refusal → Type 0 = λ f. AreDated past (of_front f outside).change.records receipts in subst P (sym is) dated
 
 pub part_of_any : (progress : Progress) (o : Outcome) → progress.decisions.items ≡ [] → progress.heard.items ≡ [] → IsPartOf progress o
@@ -129,6 +128,8 @@ by_done false true is = cc
 by_done false false is = cc
 
 by_cause : (cause : Cause) (broken : Bool) → with_output broken (status_of cause) ≡ DiskFailed → ⊥
+by_cause cause.Words true is = cc
+by_cause cause.Words false is = cc
 by_cause cause.NotFound true is = cc
 by_cause cause.NotFound false is = cc
 by_cause cause.NotBuilt true is = cc

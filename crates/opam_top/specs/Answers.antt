@@ -10,13 +10,14 @@ use Rattle.outside_io.specs.Counts.{Files, Quiet}
 use Rattle.outside_io.specs.Sinks.{Got, GotPrefix}
 use Rattle.outside_io.specs.Shops.{Told}
 use Rattle.crash_disk.specs.Disks.{State, Tree}
-use Rattle.opam_top.specs.Fronts.{front}
+use Rattle.opam_top.specs.Fronts.{front, members_for}
 use Rattle.opam_top.specs.Holdings.{Holds, is_in_journal}
 use Rattle.opam_top.specs.Outcomes.{Outcome, outcome, undecided}
 use Rattle.opam_top.specs.Refusals.{status_of}
 use Rattle.opam_top.specs.Switches.{empty_switch}
 use Rattle.opam_top.specs.declared.change.Progress.{Progress}
 use Rattle.opam_top.specs.declared.member.Member.{Member}
+use Rattle.opam_top.specs.declared.request.Request.{Request}
 use Rattle.opam_top.specs.declared.status.Ended.{Ended}
 use Rattle.opam_top.specs.declared.status.Status.{Status}
 use Rattle.opam_top.specs.declared.status.Status.TheVariants.{Done, Actions, HostFailed, DiskFailed, OutFailed, Memory}
@@ -55,6 +56,10 @@ changed o = record { status = status_by o.decisions; out = report o.decisions; e
 abbrev pub of_front : Result (List Member) Refusal → Outside → Run
 of_front (Err refusal) outside = record { status = status_of refusal.cause; out = []; err = refusal.err; refused = true; change = undecided (empty_switch outside.disk.files) }
 of_front (Ok members) outside = changed (outcome outside.shop (empty_switch outside.disk.files) members)
+
+-- the run of a request
+abbrev pub run_of : Request → Outside → Run
+run_of request outside = of_front (members_for request outside.files outside.disk.files) outside
 
 -- the run of the words
 abbrev pub run : List (List ℕ) → Outside → Run

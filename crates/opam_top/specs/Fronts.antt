@@ -12,7 +12,8 @@ use Rattle.opam_top.specs.Journals.{is_fresh}
 use Rattle.opam_top.specs.Locks.{read_lock}
 use Rattle.opam_top.specs.OpamFiles.{read_opam}
 use Rattle.opam_top.specs.Refusals.{not_built, not_found, not_in_repository}
-use Rattle.opam_top.specs.Words.{lock_file}
+use Rattle.opam_top.specs.Requests.{request_of}
+use Rattle.opam_top.specs.declared.request.Request.{Request}
 use Rattle.opam_top.specs.declared.member.Answer.{Answer}
 use Rattle.opam_top.specs.declared.member.Answer.TheVariants.{Known, Unknown, NotBuilt}
 use Rattle.opam_top.specs.declared.member.Member.{Member}
@@ -26,9 +27,9 @@ lock_limit = 4194304
 abbrev pub opam_limit : ℕ
 opam_limit = 1048576
 
--- a package's opam file in the repository `.` (opam manual, repositories)
-abbrev pub opam_path : Pkg → List ℕ
-opam_path pkg = codes "./packages/" ++ pkg.name ++ codes "/" ++ pkg_text pkg ++ codes "/opam"
+-- a package's opam file in the repository of a folder (opam manual, repositories)
+abbrev pub opam_path : List ℕ → Pkg → List ℕ
+opam_path repo pkg = repo ++ codes "/packages/" ++ pkg.name ++ codes "/" ++ pkg_text pkg ++ codes "/opam"
 
 abbrev pub with_commands : Pkg → List ℕ → Option (List (List (List ℕ))) → Answer
 with_commands pkg opam None = NotBuilt
@@ -39,8 +40,8 @@ abbrev pub answer_by : Pkg → Option (List ℕ) → Answer
 answer_by pkg None = Unknown pkg
 answer_by pkg (Some opam) = if nat_le (length opam) opam_limit then with_commands pkg opam (read_opam opam) else NotBuilt
 
-abbrev pub answer_of : Files → Pkg → Answer
-answer_of files pkg = answer_by pkg (get files (opam_path pkg))
+abbrev pub answer_of : Files → List ℕ → Pkg → Answer
+answer_of files repo pkg = answer_by pkg (get files (opam_path repo pkg))
 
 abbrev pub unknown_of : Answer → Option Pkg
 unknown_of (Known member) = None
@@ -74,18 +75,22 @@ abbrev pub bound_in_lock : List ℕ → Option (List ℕ) → Result (List Pkg) 
 bound_in_lock file None = Err (not_found file)
 bound_in_lock file (Some bytes) = if nat_le (length bytes) lock_limit then if_built (read_lock bytes) else Err not_built
 
-abbrev pub in_repository : Files → Result (List Pkg) Refusal → Result (List Member) Refusal
-in_repository files (Err refusal) = Err refusal
-in_repository files (Ok pkgs) = members_of (map (answer_of files) pkgs)
+abbrev pub in_repository : Files → List ℕ → Result (List Pkg) Refusal → Result (List Member) Refusal
+in_repository files repo (Err refusal) = Err refusal
+in_repository files repo (Ok pkgs) = members_of (map (answer_of files repo) pkgs)
 
--- a disk that has a journal is not built
-abbrev pub of_words : Option (List ℕ) → Files → Tree → Result (List Member) Refusal
-of_words None files tree = Err not_built
-of_words (Some file) files tree = if is_fresh tree then in_repository files (bound_in_lock file (get files file)) else Err not_built
+-- what a request installs; a disk that has a journal is not built
+abbrev pub members_for : Request → Files → Tree → Result (List Member) Refusal
+members_for request files tree =
+    if is_fresh tree then in_repository files request.repo (bound_in_lock request.lock_file (get files request.lock_file)) else Err not_built
+
+abbrev pub of_request : Result Request Refusal → Files → Tree → Result (List Member) Refusal
+of_request (Err refusal) files tree = Err refusal
+of_request (Ok request) files tree = members_for request files tree
 
 -- what is to be installed, in the order of names
 abbrev pub front : List (List ℕ) → Files → Tree → Result (List Member) Refusal
-front words files tree = of_words (lock_file words) files tree
+front words files tree = of_request (request_of words) files tree
 
 -- its opam file has at most 1 MiB, and it has at most 64 commands
 abbrev pub is_short : Member → Bool

@@ -16,7 +16,7 @@ pub mod Placements
 pub mod Readings
 pub mod Records
 pub mod Refusals
+pub mod Requests
 pub mod Spellings
 pub mod Statuses
 pub mod Switches
-pub mod Words

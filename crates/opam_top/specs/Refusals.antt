@@ -1,20 +1,27 @@
 -- Refusals, and what an early end of a run rests on. This project's own.
-use Rattle.std.specs.Prelude.{◌≡◌, ◌≤◌, ℕ, List, ◌++◌, codes, Result, Ok, Err}
+use Rattle.std.specs.Prelude.{◌≡◌, ◌≤◌, ℕ, List, [], ◌∷◌, ◌++◌, codes, Result, Ok, Err}
 use Rattle.std.specs.List.{flat_map}
 use Rattle.opam_names.specs.Packages.{pkg_text}
 use Rattle.opam_names.specs.declared.packages.Pkg.{Pkg}
 use Rattle.outside_io.specs.Counts.{Rose}
+use Rattle.command_words.specs.Texts.{fault_text}
+use Rattle.command_words.specs.declared.fault.WordFault.{WordFault}
 use Rattle.opam_top.specs.declared.status.Status.{Status}
 use Rattle.opam_top.specs.declared.status.Status.TheVariants as status
 use Rattle.opam_top.specs.declared.stops.Cause.{Cause}
-use Rattle.opam_top.specs.declared.stops.Cause.TheVariants.{NotFound, NotBuilt}
+use Rattle.opam_top.specs.declared.stops.Cause.TheVariants.{Words, NotFound, NotBuilt}
 use Rattle.opam_top.specs.declared.stops.Refusal.{Refusal}
 use Rattle.opam_top.specs.declared.stops.Stop.{Stop}
 use Rattle.opam_top.specs.declared.stops.Stop.TheVariants.{Host, Disk, Memory, Refused}
 
 abbrev pub status_of : Cause → Status
+status_of Words = status.Words
 status_of NotFound = status.NotFound
 status_of NotBuilt = status.NotBuilt
+
+-- the words are no command
+abbrev pub bad_words : WordFault → Refusal
+bad_words fault = record { cause = Words; err = fault_text fault ++ 10 ∷ [] }
 
 -- what was asked for is not built yet
 abbrev pub not_built : Refusal

@@ -1,5 +1,5 @@
 // From the words to what is to be installed.
-ghost use Rattle.std.specs.Prelude.{◌≡◌, ◌≢◌, ◌≤◌, ℕ, List, Some, Ok, Err, IfOk, IsTrue, length, map, string_bytes};
+ghost use Rattle.std.specs.Prelude.{◌≡◌, ◌≢◌, ◌≤◌, ℕ, List, Some, Ok, Err, IfOk, IsTrue, length};
 ghost use Rattle.std.specs.List.{list_all};
 ghost use Rattle.std.specs.declared.option.Option.{Option};
 ghost use Rattle.std.specs.FinMap.{get};
@@ -8,7 +8,7 @@ ghost use Rattle.outside_io.specs.Counts.{Files};
 ghost use Rattle.outside_io.specs.Hosts.{IsFound};
 ghost use Rattle.crash_disk.specs.Disks.{State};
 ghost use Rattle.opam_top.specs.Pasts.{Passes};
-ghost use Rattle.opam_top.specs.Fronts.{bound_in_lock, front, if_built, in_repository, is_short, lock_limit};
+ghost use Rattle.opam_top.specs.Fronts.{bound_in_lock, if_built, in_repository, is_short, lock_limit, members_for};
 ghost use Rattle.opam_top.specs.Journals.{is_fresh};
 ghost use Rattle.opam_top.specs.Locks.{read_lock};
 ghost use Rattle.opam_top.specs.Refusals.{Causes, Gives};
@@ -20,8 +20,8 @@ use crate::lock::bound_by;
 use crate::member::Member;
 use crate::numbering::{gate_path_of, record_path_of};
 use crate::repository::members_in_repository;
+use crate::request::Request;
 use crate::stops::{Stop, stop_not_built, stop_not_found};
-use crate::words::lock_file_of;
 use crash_disk::Disk;
 use opam_names::{Items, OutOfMemory, Pkg};
 use outside_io::{Found, Host};
@@ -32,7 +32,7 @@ const LOCK_LIMIT: u64 = 4194304;
 // The packages to install, in the order of their names.
 pub fn members_to_install<H: Host, D: Disk>(
     alloc: Global,
-    words: &[String],
+    request: &Request,
     host: &mut H,
     disk: &mut D,
 ) -> Result<Items<Member>, Stop>
@@ -41,15 +41,12 @@ pub fn members_to_install<H: Host, D: Disk>(
     ensures same { D.told disk.new ≡ D.told disk.old }
     ensures time { Passes (D.moment disk.old) (D.moment disk.new) (D.past disk.old) (D.past disk.new) }
     ensures told { (files : Files) (s : State) → H.files host.old ≡ Some files → D.told disk.old ≡ Some s →
-        Gives (λ (members : List Member). members) result (front (map string_bytes words.now) files s.files) }
+        Gives (λ (members : List Member). members) result (members_for request.now files s.files) }
     ensures few { IfOk result (λ members. length members ≤ 64) }
     ensures short { IfOk result (λ members. IsTrue (list_all is_short members)) }
 {
-    let Some(file) = lock_file_of(words) else {
-        return Err(stop_not_built(alloc));
-    };
     match is_fresh_disk(alloc, disk) {
-        Ok(true) => members_of_lock(alloc, host, file),
+        Ok(true) => members_of_lock(alloc, host, request),
         Ok(false) => Err(stop_not_built(alloc)),
         Err(stop) => Err(stop),
     }
@@ -75,16 +72,20 @@ fn is_fresh_disk<D: Disk>(alloc: Global, disk: &mut D) -> Result<bool, Stop>
     }
 }
 
-fn members_of_lock<H: Host>(alloc: Global, host: &mut H, file: &str) -> Result<Items<Member>, Stop>
+fn members_of_lock<H: Host>(
+    alloc: Global,
+    host: &mut H,
+    request: &Request,
+) -> Result<Items<Member>, Stop>
     ensures cause { Causes Stop.Host (H.faults host.old) (H.faults host.new) result }
     ensures disk { result ≢ Err Stop.Disk }
     ensures told { (files : Files) → H.files host.old ≡ Some files →
-        Gives (λ (members : List Member). members) result (in_repository files (bound_in_lock file.now (get files file.now))) }
+        Gives (λ (members : List Member). members) result (in_repository files request.now.repo (bound_in_lock request.now.lock_file (get files request.now.lock_file))) }
     ensures few { IfOk result (λ members. length members ≤ 64) }
     ensures short { IfOk result (λ members. IsTrue (list_all is_short members)) }
 {
-    match read_lock_file(alloc, host, file) {
-        Ok(pkgs) => members_in_repository(alloc, host, pkgs.as_slice()),
+    match read_lock_file(alloc, host, request.lock_file.as_str()) {
+        Ok(pkgs) => members_in_repository(alloc, host, request.repo.as_str(), pkgs.as_slice()),
         Err(stop) => Err(stop),
     }
 }

@@ -21,14 +21,15 @@ mod placing;
 mod readings;
 mod records;
 mod repository;
+mod request;
 mod running;
 mod sources;
 mod spelling;
 mod status;
 mod stops;
 mod telling;
-mod words;
 
+pub use command_words::{Change, Command, Query, Shown, WordFault, read_words};
 pub use commit::Encoded;
 pub use facts::{Facts, VarValue};
 pub use laws::each_is_decided;

@@ -23,57 +23,64 @@ const OPAM_LIMIT: u64 = 1048576;
 pub fn members_in_repository<H: Host>(
     alloc: Global,
     host: &mut H,
+    repo: &str,
     pkgs: &[Pkg],
 ) -> Result<Items<Member>, Stop>
     ensures cause { Causes Stop.Host (H.faults host.old) (H.faults host.new) result }
     ensures disk { result ≢ Err Stop.Disk }
     ensures told { (files : Files) → H.files host.old ≡ Some files →
-        Gives (λ (members : List Member). members) result (members_of (map (answer_of files) pkgs.now)) }
+        Gives (λ (members : List Member). members) result (members_of (map (answer_of files repo.now) pkgs.now)) }
     ensures few { IfOk result (λ members. length members ≤ length pkgs.now) }
     ensures short { IfOk result (λ members. IsTrue (list_all is_short members)) }
 {
-    match answers_of(alloc, host, pkgs) {
+    match answers_of(alloc, host, repo, pkgs) {
         Ok(answers) => members_of(alloc, answers),
         Err(stop) => Err(stop),
     }
 }
 
 // What the repository has of each package, in their order.
-pub fn answers_of<H: Host>(alloc: Global, host: &mut H, pkgs: &[Pkg]) -> Result<Items<Answer>, Stop>
+pub fn answers_of<H: Host>(
+    alloc: Global,
+    host: &mut H,
+    repo: &str,
+    pkgs: &[Pkg],
+) -> Result<Items<Answer>, Stop>
     ensures cause { Causes Stop.Host (H.faults host.old) (H.faults host.new) result }
     ensures disk { result ≢ Err Stop.Disk }
     ensures refusal { (refusal : Refusal) → result ≢ Err (Stop.Refused refusal) }
     ensures same { H.files host.new ≡ H.files host.old }
-    ensures told { (files : Files) → H.files host.old ≡ Some files → IfOk result (λ answers. answers ≡ map (answer_of files) pkgs.now) }
+    ensures told { (files : Files) → H.files host.old ≡ Some files → IfOk result (λ answers. answers ≡ map (answer_of files repo.now) pkgs.now) }
     ensures each { IfOk result (λ answers. length answers ≡ length pkgs.now) }
     ensures short { IfOk result (λ answers. IsTrue (list_all is_short (filter_map member_of answers))) }
 {
     let mut answers = Items::new(alloc);
     for pkg in pkgs {
-        let answer = answer_of(alloc, host, pkg)?;
+        let answer = answer_of(alloc, host, repo, pkg)?;
         answers.push(answer)?;
     }
     Ok(answers)
 }
 
 // What the repository has of a package.
-fn answer_of<H: Host>(alloc: Global, host: &mut H, pkg: &Pkg) -> Result<Answer, Stop>
+fn answer_of<H: Host>(alloc: Global, host: &mut H, repo: &str, pkg: &Pkg) -> Result<Answer, Stop>
     ensures cause { Causes Stop.Host (H.faults host.old) (H.faults host.new) result }
     ensures disk { result ≢ Err Stop.Disk }
     ensures refusal { (refusal : Refusal) → result ≢ Err (Stop.Refused refusal) }
     ensures same { H.files host.new ≡ H.files host.old }
-    ensures told { (files : Files) → H.files host.old ≡ Some files → IfOk result (λ answer. answer ≡ answer_of files pkg.now) }
+    ensures told { (files : Files) → H.files host.old ≡ Some files → IfOk result (λ answer. answer ≡ answer_of files repo.now pkg.now) }
     ensures short { IfOk result (λ answer. IsTrue (list_all is_short (filter_map member_of (answer ∷ [])))) }
 {
-    let path = path_of_opam(alloc, pkg)?;
+    let path = path_of_opam(alloc, repo, pkg)?;
     let found = read_file(alloc, host, path.as_str(), OPAM_LIMIT)?;
     Ok(answer_by(alloc, pkg, found)?)
 }
 
-fn path_of_opam(alloc: Global, pkg: &Pkg) -> Result<String, OutOfMemory>
-    ensures { IfOk result (λ path. string_bytes path ≡ opam_path pkg.now) }
+fn path_of_opam(alloc: Global, repo: &str, pkg: &Pkg) -> Result<String, OutOfMemory>
+    ensures { IfOk result (λ path. string_bytes path ≡ opam_path repo.now pkg.now) }
 {
-    let mut path = String::from_str(alloc, "./packages/")?;
+    let mut path = String::from_str(alloc, repo)?;
+    path.push_str("/packages/")?;
     path.push_str(pkg.name.as_str())?;
     path.push_str("/")?;
     path.push_str(pkg.print(alloc)?.as_str())?;

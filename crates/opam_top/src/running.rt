@@ -9,7 +9,7 @@ ghost use Rattle.outside_io.specs.Shops.{Told};
 ghost use Rattle.outside_io.specs.Counts.{Rose, Quiet, last_count};
 ghost use Rattle.outside_io.specs.Sinks.{Got, GotPrefix};
 ghost use Rattle.opam_top.specs.Pasts.{Passes};
-ghost use Rattle.opam_top.specs.Answers.{Outside, IsOutside, IsHalted, IsRunOf, LeftBy, after_output_fault, goes_through, out_at_end, run};
+ghost use Rattle.opam_top.specs.Answers.{Outside, IsOutside, IsHalted, IsRunOf, LeftBy, after_output_fault, goes_through, out_at_end, run, run_of};
 ghost use Rattle.opam_top.specs.Changes.{AreDated, AreReceipts, IsPartOf, Says, Stands, Tracks};
 ghost use Rattle.opam_top.specs.Holdings.{KeepsOthers};
 ghost use Rattle.opam_top.specs.Fronts.{is_short};
@@ -25,6 +25,7 @@ use crate::ending::conclude;
 use crate::facts::Facts;
 use crate::front::members_to_install;
 use crate::member::Member;
+use crate::request::{Request, read_request};
 use crate::status::{Ended, Status};
 use crate::stops::Stop;
 use crate::telling::say;
@@ -202,8 +203,54 @@ fn change_by_words<H: Host, W: Workshop, D: Disk, O: Sink>(
     ensures dated { (outside : Outside) → IsOutside outside (H.files host.old) (D.told disk.old) (W.told shop.now) → D.moment disk.new < last_count →
         AreDated (D.past disk.new) (run (map string_bytes words.now) outside).change.records progress.new.receipts.items }
 {
-    match members_to_install(alloc, words, host, disk) {
-        Ok(members) => install_and_sum_up(alloc, shop, disk, out, progress, members.as_slice()),
+    match read_request(alloc, words) {
+        Ok(request) => change_by_request(alloc, &request, host, shop, disk, out, progress),
+        Err(stop) => Err(stop),
+    }
+}
+
+fn change_by_request<H: Host, W: Workshop, D: Disk, O: Sink>(
+    alloc: Global,
+    request: &Request,
+    host: &mut H,
+    shop: &W,
+    disk: &mut D,
+    out: &mut Teller<O>,
+    progress: &mut Progress,
+) -> Result<(), Stop>
+    requires jobs { 0 < request.now.jobs }
+    requires undecided { progress.old.decisions.items ≡ [] }
+    requires unheard { progress.old.heard.items ≡ [] }
+    requires uncommitted { progress.old.receipts.items ≡ [] }
+    requires unowned { progress.old.owners.items ≡ [] }
+    ensures sink { out.new.sink.ghost_name ≡ out.old.sink.ghost_name }
+    ensures host { Causes Stop.Host (H.faults host.old) (H.faults host.new) result }
+    ensures disk { Causes Stop.Disk (D.faults disk.old) (D.faults disk.new) result }
+    ensures kept { (s : State) → D.told disk.old ≡ Some s → (new : State) × (D.told disk.new ≡ Some new) × KeepsOthers s.files new.files }
+    ensures receipts { AreReceipts (D.moment disk.old) (D.moment disk.new) progress.new.receipts.items }
+    ensures committed { length progress.new.receipts.items ≡ count_by is_installed progress.new.decisions.items }
+    ensures said { Says out.old.stopped out.new.stopped (O.faults out.old.sink.now) (O.faults out.new.sink.now) (O.written out.old.sink.now) (O.written out.new.sink.now) (out_at_end result progress.new.decisions.items) }
+    ensures idle { result ≡ Err Stop.Host → D.told disk.new ≡ D.told disk.old }
+    ensures silent { result ≡ Err Stop.Host → progress.new.decisions.items ≡ [] }
+    ensures run { (outside : Outside) → IsOutside outside (H.files host.old) (D.told disk.old) (W.told shop.now) → IsTrue (goes_through result) →
+        IsRunOf (run_of request.now outside) outside.disk.files result progress.new (D.told disk.new) }
+    ensures halted { (outside : Outside) → IsOutside outside (H.files host.old) (D.told disk.old) (W.told shop.now) → result ≡ Err Stop.Disk →
+        IsPartOf progress.new (run_of request.now outside).change }
+    ensures dated { (outside : Outside) → IsOutside outside (H.files host.old) (D.told disk.old) (W.told shop.now) → D.moment disk.new < last_count →
+        AreDated (D.past disk.new) (run_of request.now outside).change.records progress.new.receipts.items }
+{
+    match members_to_install(alloc, request, host, disk) {
+        Ok(members) => {
+            install_and_sum_up(
+                alloc,
+                request.jobs,
+                shop,
+                disk,
+                out,
+                progress,
+                members.as_slice(),
+            )
+        }
         Err(stop) => Err(stop),
     }
 }
@@ -211,12 +258,14 @@ fn change_by_words<H: Host, W: Workshop, D: Disk, O: Sink>(
 // Installs packages, and ends the report with its summary.
 fn install_and_sum_up<W: Workshop, D: Disk, O: Sink>(
     alloc: Global,
+    jobs: u32,
     shop: &W,
     disk: &mut D,
     out: &mut Teller<O>,
     progress: &mut Progress,
     members: &[Member],
 ) -> Result<(), Stop>
+    requires jobs { 0 < jobs }
     requires few { length members.now ≤ 64 }
     requires short { IsTrue (list_all is_short members.now) }
     requires undecided { progress.old.decisions.items ≡ [] }
@@ -243,7 +292,7 @@ fn install_and_sum_up<W: Workshop, D: Disk, O: Sink>(
     ensures dated { (told : Told) (s : State) → W.told shop.now ≡ Some told → D.told disk.old ≡ Some s → is_fresh s.files ≡ true → D.moment disk.new < last_count →
         AreDated (D.past disk.new) (outcome told (empty_switch s.files) members.now).records progress.new.receipts.items }
 {
-    let mut crew = SerialCrew::new(alloc, shop, 1);
+    let mut crew = SerialCrew::new(alloc, shop, jobs);
     match install_members(alloc, shop, &mut crew, disk, out, progress, members) {
         Ok(()) => sum_up(alloc, out, progress.decisions.as_slice()),
         Err(stop) => Err(stop),

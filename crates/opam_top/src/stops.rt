@@ -1,16 +1,19 @@
 // Early ends of a run.
-ghost use Rattle.std.specs.Prelude.{◌≡◌, ◌++◌, IfOk, codes, string_bytes};
+ghost use Rattle.std.specs.Prelude.{◌≡◌, ◌++◌, [], ◌∷◌, IfOk, codes, string_bytes};
 ghost use Rattle.std.specs.List.{flat_map};
+ghost use Rattle.command_words.specs.Texts.{fault_text};
 ghost use Rattle.opam_top.specs.declared.stops.Stop.TheVariants.{Memory};
-ghost use Rattle.opam_top.specs.Refusals.{IsStopFor, not_built, not_found, not_in_repository, status_of, unknown_line};
+ghost use Rattle.opam_top.specs.Refusals.{IsStopFor, bad_words, not_built, not_found, not_in_repository, status_of, unknown_line};
 
 use crate::Status;
+use command_words::WordFault;
 use opam_names::{Items, OutOfMemory, Pkg};
 use std::alloc::{AllocError, Global};
 
 /// Why a run is refused.
 #[derive(Clone, Copy, Debug, PartialEq, Eq)]
 pub enum Cause {
+    Words,
     NotFound,
     NotBuilt,
 }
@@ -20,6 +23,7 @@ impl Cause {
         ensures { result ≡ status_of self }
     {
         match self {
+            Cause::Words => Status::Words,
             Cause::NotFound => Status::NotFound,
             Cause::NotBuilt => Status::NotBuilt,
         }
@@ -63,6 +67,24 @@ pub fn stop_not_built(alloc: Global) -> Stop
     ensures { IsStopFor not_built result }
 {
     stop_with(alloc, Cause::NotBuilt, b"not built yet\n")
+}
+
+// The refusal of words that are no command.
+pub fn stop_for_words(alloc: Global, fault: &WordFault) -> Stop
+    ensures { IsStopFor (bad_words fault.now) result }
+{
+    match line_of_fault(alloc, fault) {
+        Ok(text) => stop_with(alloc, Cause::Words, text.as_bytes()),
+        Err(OutOfMemory) => Stop::Memory,
+    }
+}
+
+fn line_of_fault(alloc: Global, fault: &WordFault) -> Result<String, OutOfMemory>
+    ensures { IfOk result (λ text. string_bytes text ≡ fault_text fault.now ++ 10 ∷ []) }
+{
+    let mut text = fault.text(alloc)?;
+    text.push_str("\n")?;
+    Ok(text)
 }
 
 // The refusal of a file that is absent.

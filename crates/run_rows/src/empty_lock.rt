@@ -66,24 +66,16 @@ fn runs_of_an_empty_lock(rt: HostRuntime) -> Result<(), Fail> {
 fn runs_that_are_not_built(rt: HostRuntime) -> Result<(), Fail> {
     let rows = [
         Row {
-            words: &["install"],
-            ..plain("no lock file")
-        },
-        Row {
-            words: &["install", "--lock-file", ""],
-            ..plain("an empty file name")
-        },
-        Row {
-            words: &["install", "--lock-file", "l\0"],
-            ..plain("a zero byte")
-        },
-        Row {
             words: &["install", "--lock-file", "l", "a"],
             ..plain("a name")
         },
         Row {
-            words: &[],
-            ..plain("no words")
+            words: &["remove", "--", "--jobs"],
+            ..plain("a removal")
+        },
+        Row {
+            words: &["list"],
+            ..plain("a question")
         },
         Row {
             files: &[("l", "\n")],

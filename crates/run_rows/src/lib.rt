@@ -13,3 +13,5 @@ mod packages;
 mod repository;
 #[cfg(test)]
 mod rows;
+#[cfg(test)]
+mod words;

@@ -14,7 +14,7 @@ loop-pkg-preserved g c =
       faults = c.in_ok-answer.ensures.cause.same (λ e. cc) ∙ before.faults;
       same = c.answer_of.ensures.same ∙ before.same;
       told = λ files tells.
-          answered_at (answer_of files) got more c.args.pkgs.now c.loop-pkg.pkg-index c.pkg-item.result answer c.loop-pkg-test.true c.pkg-item.is (before.told files tells)
+          answered_at (answer_of files c.args.repo.now) got more c.args.pkgs.now c.loop-pkg.pkg-index c.pkg-item.result answer c.loop-pkg-test.true c.pkg-item.is (before.told files tells)
           (c.in_ok-answer.ensures.told files (before.same ∙ tells)) grows;
       each = counted_more got more answer c.loop-pkg.pkg-index grows before.each;
       short = short_more got more answer grows before.short c.in_ok-answer.ensures.short;

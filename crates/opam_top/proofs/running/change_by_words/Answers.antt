@@ -1,54 +1,26 @@
-use Rattle.opam_top.specs.Answers.{run}
-use Rattle.opam_top.proofs.Dates.{dated_none}
-use Rattle.std.proofs.Common.{◌∙◌, ap, sym, map, string_bytes, List, Ok}
-use Rattle.opam_top.specs.declared.member.Member.{Member}
-use Rattle.opam_top.proofs.Committed.{keeps_same}
-use Rattle.opam_top.proofs.Ends.{part_of_run, receipts_from, run_refused, run_whole, dated_of_run}
-use Rattle.opam_top.proofs.Fronted.{front_fresh}
+use Rattle.std.proofs.Common.{Result, map, string_bytes, subst, sym}
+use Rattle.opam_top.specs.Answers.{IsRunOf, of_front}
+use Rattle.opam_top.specs.Changes.{IsPartOf}
+use Rattle.opam_top.specs.Fronts.{front, of_request}
+use Rattle.opam_top.specs.Requests.{request_of}
+use Rattle.opam_top.specs.declared.request.Request.{Request}
+use Rattle.opam_top.specs.declared.stops.Refusal.{Refusal}
+use Rattle.opam_top.proofs.Ends.{run_refused}
+use Rattle.opam_top.proofs.Fronted.{refused_words}
 use Rattle.opam_top.proofs.running.change_by_words.Goals as goal
-
-pub returns-in-Ok-clause-kept : goal.returns-in-Ok-clause-kept
-returns-in-Ok-clause-kept g c = λ s told. c.install_and_sum_up.ensures.kept s (c.members_to_install.ensures.same ∙ told)
-
-pub returns-in-Ok-clause-receipts : goal.returns-in-Ok-clause-receipts
-returns-in-Ok-clause-receipts g c =
-    let D = g.D.Disk in
-    receipts_from (D.moment c.args.disk.now) (D.moment c.members_to_install.new.disk) (D.moment c.install_and_sum_up.new.disk) c.install_and_sum_up.new.progress.receipts.items c.members_to_install.ensures.time.later c.install_and_sum_up.ensures.receipts
 
 pub returns-in-Ok-clause-run : goal.returns-in-Ok-clause-run
 returns-in-Ok-clause-run g c = λ outside is goes.
-    let words = map string_bytes c.args.words.now in let members = c.in-Ok.members in
-    let found = c.in-Ok.ensures.told outside.files outside.disk is.files is.disk in
-    let fresh = front_fresh words outside.files outside.disk.files members found in
-    let disk = c.members_to_install.ensures.same ∙ is.disk in
-    run_whole words outside c.as_slice.result.now c.install_and_sum_up.result c.install_and_sum_up.new.progress (g.D.Disk.told c.install_and_sum_up.new.disk) (found ∙ ap (λ (l : List Member). Ok l) (sym c.as_slice.ensures)) c.install_and_sum_up.ensures.host c.install_and_sum_up.ensures.refusal goes
-    (c.install_and_sum_up.ensures.done outside.shop outside.disk is.shop disk fresh) (c.install_and_sum_up.ensures.left outside.shop outside.disk is.shop disk fresh) (c.install_and_sum_up.ensures.heard outside.shop outside.disk is.shop disk fresh)
+    subst (λ (answer : Result Request Refusal). IsRunOf (of_front (of_request answer outside.files outside.disk.files) outside) outside.disk.files c.change_by_request.result c.change_by_request.new.progress (g.D.Disk.told c.change_by_request.new.disk))
+    (sym c.in-Ok.ensures.told) (c.change_by_request.ensures.run outside is goes)
 
 pub returns-in-Ok-clause-halted : goal.returns-in-Ok-clause-halted
 returns-in-Ok-clause-halted g c = λ outside is ended.
-    let words = map string_bytes c.args.words.now in let members = c.in-Ok.members in
-    let found = c.in-Ok.ensures.told outside.files outside.disk is.files is.disk in
-    let fresh = front_fresh words outside.files outside.disk.files members found in
-    let disk = c.members_to_install.ensures.same ∙ is.disk in
-    part_of_run words outside c.as_slice.result.now c.install_and_sum_up.new.progress (found ∙ ap (λ (l : List Member). Ok l) (sym c.as_slice.ensures)) (c.install_and_sum_up.ensures.halted outside.shop outside.disk is.shop disk fresh ended)
-
-pub returns-in-Err-clause-kept : goal.returns-in-Err-clause-kept
-returns-in-Err-clause-kept g c = λ s told. (s, c.members_to_install.ensures.same ∙ told, keeps_same s.files)
+    subst (λ (answer : Result Request Refusal). IsPartOf c.change_by_request.new.progress (of_front (of_request answer outside.files outside.disk.files) outside).change) (sym c.in-Ok.ensures.told)
+    (c.change_by_request.ensures.halted outside is ended)
 
 pub returns-in-Err-clause-run : goal.returns-in-Err-clause-run
 returns-in-Err-clause-run g c = λ outside is goes.
-    run_refused (map string_bytes c.args.words.now) outside c.in-Err.stop c.args.progress.now (g.D.Disk.told c.members_to_install.new.disk) (c.in-Err.ensures.told outside.files outside.disk is.files is.disk) goes c.requires.undecided c.requires.unheard c.requires.uncommitted
-    (c.members_to_install.ensures.same ∙ is.disk)
-
-pub returns-in-Ok-clause-dated : goal.returns-in-Ok-clause-dated
-returns-in-Ok-clause-dated g c = λ outside is short.
-    let words = map string_bytes c.args.words.now in let members = c.in-Ok.members in
-    let found = c.in-Ok.ensures.told outside.files outside.disk is.files is.disk in
-    let fresh = front_fresh words outside.files outside.disk.files members found in
-    let disk = c.members_to_install.ensures.same ∙ is.disk in
-    dated_of_run words outside c.as_slice.result.now (g.D.Disk.past c.install_and_sum_up.new.disk) c.install_and_sum_up.new.progress.receipts.items (found ∙ ap (λ (l : List Member). Ok l) (sym c.as_slice.ensures))
-    (c.install_and_sum_up.ensures.dated outside.shop outside.disk is.shop disk fresh short)
-
-pub returns-in-Err-clause-dated : goal.returns-in-Err-clause-dated
-returns-in-Err-clause-dated g c = λ outside is short.
-    dated_none (g.D.Disk.past c.members_to_install.new.disk) (run (map string_bytes c.args.words.now) outside).change.records c.args.progress.now.receipts.items c.requires.uncommitted
+    let words = map string_bytes c.args.words.now in
+    run_refused (front words outside.files outside.disk.files) outside c.in-Err.stop c.args.progress.now (g.D.Disk.told c.args.disk.now)
+    (refused_words (request_of words) outside.files outside.disk.files c.in-Err.stop c.in-Err.ensures.told) goes c.requires.undecided c.requires.unheard c.requires.uncommitted is.disk

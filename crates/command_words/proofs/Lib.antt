@@ -1,0 +1,4 @@
+pub mod JobTexts
+pub mod NameLists
+pub mod Faultless
+pub mod Splits
