@@ -1,0 +1,3 @@
+pub mod OneTree
+pub mod OneTokens
+pub mod OneFile

@@ -1,0 +1,89 @@
+-- Bytes have at most one list of tokens.
+use Rattle.std.proofs.Common.{◌≡◌, ℕ, Bool, List, ◌∷◌, ◌++◌, refl, sym, subst, ◌∙◌}
+use Rattle.opam_syntax.specs.declared.token.Token.{Token}
+use Rattle.opam_syntax.specs.declared.token.Token.TheVariants.{Text}
+use Rattle.opam_syntax.specs.Texts.{Piece, Closes, Gives, IsInside, closes, gives}
+use Rattle.opam_syntax.specs.Tokens.{First, End, Gap, Single, Quote, Placed, placed, span_between, AreTokens, ends, gap, single, text}
+
+clash_closes : {p : Piece} {a b c : List ℕ} {A : Type 0} → p ≡ Closes a → p ≡ Gives b c → A
+clash_closes {A} e f = let g = sym e ∙ f in absurd cc
+
+inside_too : {long : Bool} {xs ys t r : List ℕ} → xs ≡ ys → IsInside long ys t r → IsInside long xs t r
+inside_too {long} {t = t} {r = r} e p = subst (λ xs. IsInside long xs t r) (sym e) p
+
+rest_of : {p : Piece} {a b : List ℕ} → p ≡ Closes a → p ≡ Closes b → a ≡ b
+rest_of e f = let g = sym e ∙ f in cc
+
+part_of : {p : Piece} {a b c d : List ℕ} → p ≡ Gives a b → p ≡ Gives c d → (a ≡ c) × (b ≡ d)
+part_of e f = let g = sym e ∙ f in (cc, cc)
+
+same_part : {a b t u r s : List ℕ} → a ≡ b → (t ≡ u) × (r ≡ s) → (a ++ t ≡ b ++ u) × (r ≡ s)
+same_part e f = let g = f.0 in (cc, f.1)
+
+pub same_inside : {long : Bool} {bytes t r : List ℕ} → IsInside long bytes t r → {u s : List ℕ} → IsInside long bytes u s → (t ≡ u) × (r ≡ s)
+same_inside (closes e) (closes f) = (refl, rest_of e f)
+same_inside (closes e) (gives f q) = clash_closes e f
+same_inside (gives e p) (closes f) = clash_closes f e
+same_inside (gives e p) (gives f q) = let g = part_of e f in same_part g.0 (same_inside p (inside_too g.1 q))
+
+end_gap : {x : First} {a : List ℕ} {A : Type 0} → x ≡ End → x ≡ Gap a → A
+end_gap {A} e f = let g = sym e ∙ f in absurd cc
+
+end_single : {x : First} {a : List ℕ} {t : Token} {A : Type 0} → x ≡ End → x ≡ Single t a → A
+end_single {A} e f = let g = sym e ∙ f in absurd cc
+
+end_quote : {x : First} {a : List ℕ} {b : Bool} {A : Type 0} → x ≡ End → x ≡ Quote b a → A
+end_quote {A} e f = let g = sym e ∙ f in absurd cc
+
+gap_single : {x : First} {a c : List ℕ} {t : Token} {A : Type 0} → x ≡ Gap c → x ≡ Single t a → A
+gap_single {A} e f = let g = sym e ∙ f in absurd cc
+
+gap_quote : {x : First} {a c : List ℕ} {b : Bool} {A : Type 0} → x ≡ Gap c → x ≡ Quote b a → A
+gap_quote {A} e f = let g = sym e ∙ f in absurd cc
+
+single_quote : {x : First} {a c : List ℕ} {t : Token} {b : Bool} {A : Type 0} → x ≡ Single t c → x ≡ Quote b a → A
+single_quote {A} e f = let g = sym e ∙ f in absurd cc
+
+gap_of : {x : First} {a b : List ℕ} → x ≡ Gap a → x ≡ Gap b → a ≡ b
+gap_of e f = let g = sym e ∙ f in cc
+
+single_of : {x : First} {t u : Token} {a b : List ℕ} → x ≡ Single t a → x ≡ Single u b → (t ≡ u) × (a ≡ b)
+single_of e f = let g = sym e ∙ f in (cc, cc)
+
+quote_of : {x : First} {c d : Bool} {a b : List ℕ} → x ≡ Quote c a → x ≡ Quote d b → (c ≡ d) × (a ≡ b)
+quote_of e f = let g = sym e ∙ f in (cc, cc)
+
+tokens_too : {total : ℕ} {xs ys : List ℕ} {ts : List Placed} → xs ≡ ys → AreTokens total ys ts → AreTokens total xs ts
+tokens_too {total} {ts = ts} e p = subst (λ xs. AreTokens total xs ts) (sym e) p
+
+quoted_too : {c d : Bool} {xs ys t r : List ℕ} → c ≡ d → xs ≡ ys → IsInside d ys t r → IsInside c xs t r
+quoted_too {xs = xs} {t = t} {r = r} e f p = subst (λ c. IsInside c xs t r) (sym e) (inside_too f p)
+
+same_single : (total : ℕ) (bytes : List ℕ) {t u : Token} {r s : List ℕ} {ts us : List Placed} → (t ≡ u) × (r ≡ s) → ts ≡ us
+    → (placed t (span_between total bytes r) ∷ ts) ≡ (placed u (span_between total bytes s) ∷ us)
+same_single total bytes e f = let g = e.0 in let h = e.1 in cc
+
+same_text : (total : ℕ) (bytes : List ℕ) {t u r s : List ℕ} {ts us : List Placed} → (t ≡ u) × (r ≡ s) → ts ≡ us
+    → (placed (Text t) (span_between total bytes r) ∷ ts) ≡ (placed (Text u) (span_between total bytes s) ∷ us)
+same_text total bytes e f = let g = e.0 in let h = e.1 in cc
+
+pub same_tokens : {total : ℕ} {bytes : List ℕ} {ts : List Placed} → AreTokens total bytes ts → {us : List Placed} → AreTokens total bytes us → ts ≡ us
+same_tokens (ends e) (ends f) = refl
+same_tokens (ends e) (gap f q) = end_gap e f
+same_tokens (ends e) (single f q) = end_single e f
+same_tokens (ends e) (text f i q) = end_quote e f
+same_tokens (gap e p) (ends f) = end_gap f e
+same_tokens (gap e p) (gap f q) = same_tokens p (tokens_too (gap_of e f) q)
+same_tokens (gap e p) (single f q) = gap_single e f
+same_tokens (gap e p) (text f i q) = gap_quote e f
+same_tokens (single e p) (ends f) = end_single f e
+same_tokens (single e p) (gap f q) = gap_single f e
+same_tokens {total} {bytes} (single e p) (single f q) = let g = single_of e f in same_single total bytes g (same_tokens p (tokens_too g.1 q))
+same_tokens (single e p) (text f i q) = single_quote e f
+same_tokens (text e i p) (ends f) = end_quote f e
+same_tokens (text e i p) (gap f q) = gap_quote f e
+same_tokens (text e i p) (single f q) = single_quote f e
+same_tokens {total} {bytes} (text e i p) (text f j q) =
+    let g = quote_of e f in
+    let h = same_inside i (quoted_too g.0 g.1 j) in
+    same_text total bytes h (same_tokens p (tokens_too h.1 q))

@@ -1,0 +1,10 @@
+pub mod Words
+pub mod Signs
+pub mod Texts
+pub mod Tokens
+pub mod Grammar
+pub mod Files
+pub mod Nesting
+pub mod Doubles
+pub mod Trees
+pub mod Laws
