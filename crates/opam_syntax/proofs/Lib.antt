@@ -1,3 +1,4 @@
 pub mod OneTree
 pub mod OneTokens
 pub mod OneFile
+pub mod OneFault

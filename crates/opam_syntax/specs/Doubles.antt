@@ -1,6 +1,9 @@
--- Doubled names: no item has the key of an earlier one, and no field of a section the name of an earlier one there. opam itself
--- takes several sections of one name; this project refuses items with the same name, kind and label.
-use Rattle.std.specs.Prelude.{◌≡◌, ℕ, List, [], ◌∷◌, ◌++◌, map, Contains}
+-- Doubled names: no item has the key of an earlier one, and no field of a section the name of an earlier one there. This project's
+-- own: opam warns of some of them, and takes the last.
+use Rattle.std.specs.Prelude.{ℕ, List, [], ◌∷◌, ◌++◌, Bool, true, false, not, bytes_eq, ◌==◌, ◌&&◌, if◌then◌else◌}
+use Rattle.std.specs.List.{list_any}
+use Rattle.std.specs.declared.option.Option.{Option}
+use Rattle.std.specs.declared.option.Option.TheVariants.{None, Some}
 use Rattle.opam_syntax.specs.declared.file.Key.{Key}
 use Rattle.opam_syntax.specs.declared.tree.Node.{Node}
 use Rattle.opam_syntax.specs.Files.{Contents, FieldContents, SectionContents, Entry}
@@ -9,6 +12,20 @@ use Rattle.opam_syntax.specs.Files.{Contents, FieldContents, SectionContents, En
 pub data Name : Type 0 where
   ItemName : Key → Name
   FieldName : ℕ → List ℕ → Name
+
+abbrev pub label_eq : Option (List ℕ) → Option (List ℕ) → Bool
+label_eq None None = true
+label_eq (Some one) (Some other) = bytes_eq one other
+label_eq one other = false
+
+abbrev pub key_eq : Key → Key → Bool
+key_eq one other =
+    bytes_eq one.name other.name && (if one.section then other.section else not other.section) && label_eq one.label other.label
+
+abbrev pub name_eq : Name → Name → Bool
+name_eq (ItemName one) (ItemName other) = key_eq one other
+name_eq (FieldName section one) (FieldName other_section other) = section == other_section && bytes_eq one other
+name_eq one other = false
 
 -- the names of the fields of a section, each with its place
 abbrev pub field_names : ℕ → List (List ℕ × Node) → List ℕ → List (Name × ℕ)
@@ -26,10 +43,12 @@ names [] = []
 names (entry ∷ entries) =
     (ItemName entry.key, entry.span.start) ∷ inner_names entry.span.start entry.contents entry.places ++ names entries
 
--- an earlier name comes again at this place
-abbrev pub IsDoubledAt : List Entry → ℕ → Type 0
-IsDoubledAt entries place =
-    (before after : List (Name × ℕ)) × (name : Name) × (names entries ≡ before ++ (name, place) ∷ after) × Contains (map (λ n. n.0) before) name
+-- the place of the first name that is among those before it
+abbrev pub first_doubled : List Name → List (Name × ℕ) → Option ℕ
+first_doubled before [] = None
+first_doubled before (name ∷ more) =
+    if list_any (name_eq name.0) before then Some name.1 else first_doubled (name.0 ∷ before) more
 
-abbrev pub AreSingle : List Entry → Type 0
-AreSingle entries = (place : ℕ) → ¬ (IsDoubledAt entries place)
+-- the place of the first doubled name of a file
+abbrev pub doubled_at : List Entry → Option ℕ
+doubled_at entries = first_doubled [] (names entries)

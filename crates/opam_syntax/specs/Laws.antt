@@ -1,8 +1,11 @@
--- Laws of the grammar.
-use Rattle.std.specs.Prelude.{◌≡◌, ℕ, List}
+-- Laws of the grammar and of the faults.
+use Rattle.std.specs.Prelude.{◌≡◌, ◌≢◌, ℕ, List}
+use Rattle.opam_syntax.specs.declared.fault.SyntaxFault.{SyntaxFault}
+use Rattle.opam_syntax.specs.declared.fault.SyntaxFault.TheVariants.{Memory}
 use Rattle.opam_syntax.specs.declared.file.File.{File}
 use Rattle.opam_syntax.specs.Files.{Entry, Derives}
 use Rattle.opam_syntax.specs.Trees.{items_of, IsTextOf}
+use Rattle.opam_syntax.specs.Faults.{IsFaultOf, IsStrayAt, IsEndedAt, IsDoubledAt}
 
 -- bytes spell at most one tree: two files of one text have the same items, at the same places
 abbrev pub OneTreeForBytes : Type 0
@@ -12,3 +15,13 @@ OneTreeForBytes = (bytes : List ℕ) (one other : File) → IsTextOf bytes one �
 -- also where something is too deep or doubled, the grammar derives at most one list of items
 abbrev pub OneDerivation : Type 0
 OneDerivation = (bytes : List ℕ) (one other : List Entry) → Derives bytes one → Derives bytes other → one ≡ other
+
+-- but for want of memory, bytes have at most one fault
+abbrev pub OneFaultForBytes : Type 0
+OneFaultForBytes = (bytes : List ℕ) (one other : SyntaxFault) → IsFaultOf bytes one → IsFaultOf bytes other → one ≢ Memory → other ≢ Memory
+    → one ≡ other
+
+-- the text of a file is nowhere stray, has not ended early and has no doubled name
+abbrev pub FilesHaveNoFault : Type 0
+FilesHaveNoFault = (bytes : List ℕ) (file : File) (place : ℕ) → IsTextOf bytes file
+    → (¬ (IsStrayAt bytes place)) × (¬ (IsEndedAt bytes place)) × (¬ (IsDoubledAt bytes place))

@@ -7,4 +7,6 @@ pub mod Files
 pub mod Nesting
 pub mod Doubles
 pub mod Trees
+pub mod Faults
+pub mod Spelling
 pub mod Laws

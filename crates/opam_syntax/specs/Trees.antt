@@ -1,13 +1,14 @@
 -- What it means that bytes are the text of a file (opam manual, file format): the grammar derives its items, nothing nests deeper
 -- than 64, and no name comes twice.
 use Rattle.std.specs.Prelude.{◌≡◌, ℕ, List, map}
+use Rattle.std.specs.declared.option.Option.TheVariants.{None}
 use Rattle.opam_syntax.specs.declared.file.File.{File}
 use Rattle.opam_syntax.specs.declared.file.Item.{Item}
 use Rattle.opam_syntax.specs.declared.file.Item.TheVariants.{Field, Section}
 use Rattle.opam_syntax.specs.declared.file.Key.{Key}
 use Rattle.opam_syntax.specs.Files.{Contents, FieldContents, SectionContents, Entry, Derives}
 use Rattle.opam_syntax.specs.Nesting.{AreShallow}
-use Rattle.opam_syntax.specs.Doubles.{AreSingle}
+use Rattle.opam_syntax.specs.Doubles.{doubled_at}
 
 -- what an item has in it; the room that a map keeps is no part of that
 abbrev pub contents_of : Item → Contents
@@ -26,7 +27,7 @@ told_items entries = map (λ entry. let pair : Key × Contents = (entry.key, ent
 pub record IsSpelling (bytes : List ℕ) (entries : List Entry) : Type 0 where
   pub derived : Derives bytes entries
   pub shallow : AreShallow entries
-  pub single : AreSingle entries
+  pub single : doubled_at entries ≡ None
 
 -- the file has these items, at these places
 pub record HasEntries (file : File) (entries : List Entry) : Type 0 where

@@ -1,5 +1,5 @@
 // Laws of the grammar.
-ghost use Rattle.opam_syntax.specs.Laws.{OneDerivation, OneTreeForBytes};
+ghost use Rattle.opam_syntax.specs.Laws.{FilesHaveNoFault, OneDerivation, OneFaultForBytes, OneTreeForBytes};
 
 /// Bytes spell at most one tree: two files of one text have the same items, at the same places.
 pub fn one_tree_for_bytes()
@@ -9,4 +9,14 @@ pub fn one_tree_for_bytes()
 /// The grammar derives at most one list of items from bytes, also where something is too deep or doubled.
 pub fn one_derivation()
     ensures { OneDerivation }
+{}
+
+/// But for want of memory, bytes have at most one fault.
+pub fn one_fault_for_bytes()
+    ensures { OneFaultForBytes }
+{}
+
+/// The text of a file is nowhere stray, has not ended early and has no doubled name.
+pub fn files_have_no_fault()
+    ensures { FilesHaveNoFault }
 {}

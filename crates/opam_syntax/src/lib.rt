@@ -1,11 +1,13 @@
 //! The syntax of opam files: trees with spans, and what it means that bytes spell a tree (opam manual, file format).
 #![tactic(auto)]
 
+mod fault;
 mod file;
 mod laws;
 mod token;
 mod tree;
 
+pub use fault::SyntaxFault;
 pub use file::{File, Item, Key, Label, Word};
-pub use laws::{one_derivation, one_tree_for_bytes};
+pub use laws::{files_have_no_fault, one_derivation, one_fault_for_bytes, one_tree_for_bytes};
 pub use tree::{EnvOp, Node, RelOp, Span, Value, Var};
