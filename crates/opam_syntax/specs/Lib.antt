@@ -9,4 +9,5 @@ pub mod Doubles
 pub mod Trees
 pub mod Faults
 pub mod Spelling
+pub mod Rows
 pub mod Laws

@@ -4,10 +4,12 @@
 mod fault;
 mod file;
 mod laws;
+mod rows;
 mod token;
 mod tree;
 
 pub use fault::SyntaxFault;
 pub use file::{File, Item, Key, Label, Word};
 pub use laws::{files_have_no_fault, one_derivation, one_fault_for_bytes, one_tree_for_bytes};
+pub use rows::{rows_are_spelled, sample_is_printed};
 pub use tree::{EnvOp, Node, RelOp, Span, Value, Var};

@@ -1,0 +1,12 @@
+// Worked rows of the grammar.
+ghost use Rattle.opam_syntax.specs.Rows.{RowsAreSpelled, SampleIsPrinted};
+
+/// A lock, three opam files and some short texts spell the items that a reader expects of them.
+pub fn rows_are_spelled()
+    ensures { RowsAreSpelled }
+{}
+
+/// The canonical spelling of a file with a list, an identifier and a text in braces.
+pub fn sample_is_printed()
+    ensures { SampleIsPrinted }
+{}
