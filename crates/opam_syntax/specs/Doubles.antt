@@ -1,5 +1,5 @@
 -- Doubled names: no item has the key of an earlier one, and no field of a section the name of an earlier one there. This project's
--- own: opam warns of some of them, and takes the last.
+-- own: opam's syntax allows them.
 use Rattle.std.specs.Prelude.{ℕ, List, [], ◌∷◌, ◌++◌, Bool, true, false, not, bytes_eq, ◌==◌, ◌&&◌, if◌then◌else◌}
 use Rattle.std.specs.List.{list_any}
 use Rattle.std.specs.declared.option.Option.{Option}
