@@ -16,11 +16,12 @@ use Rattle.opam_syntax.specs.Grammar.{Spells, atom_of, begins_relation, ValueLev
 use Rattle.opam_syntax.specs.Files.{Contents, AreEntries, no_entry, field_next}
 use Rattle.opam_syntax.specs.Trees.{IsSpelling}
 use Rattle.opam_syntax.proofs.Folds.{depth_at, text_at}
-use Rattle.opam_syntax.specs.Rows.{sample_text, sample, lock_text, lock, dune_text, dune, fmt_text, fmt, app_text, app, doubled_text, doubled, RowsAreSpelled, SampleIsPrinted}
+use Rattle.opam_syntax.specs.Rows.{RowsAreSpelled, SampleIsPrinted}
+use Rattle.opam_syntax.specs.Samples.{sample_text, sample, lock_text, lock, dune_text, dune, fmt_text, fmt, app_text, app, doubled_text, doubled}
 use Rattle.opam_syntax.specs.Spelling.{item_text}
 use Rattle.opam_syntax.specs.declared.file.Key.{Key}
 
-abbrev on : Token → ℕ → ℕ → Placed
+abbrev pub on : Token → ℕ → ℕ → Placed
 on token from to = placed token (record { start = from; end = to })
 
 relation_value : {tokens rest : List Placed} {n : Node} → Spells RelationLevel tokens n rest → Spells ValueLevel tokens n rest
@@ -32,7 +33,7 @@ braced_value p h = relation_value (alone p h)
 primary_value : {tokens rest : List Placed} {n : Node} → Spells PrimaryLevel tokens n rest → IsFalse (begins_relation rest) → Spells ValueLevel tokens n rest
 primary_value p h = braced_value (bare p) h
 
-atom_value : {token : Token} {v : Value} {span : Span} {rest : List Placed} → atom_of token ≡ Some v → IsFalse (begins_relation rest)
+pub atom_value : {token : Token} {v : Value} {span : Span} {rest : List Placed} → atom_of token ≡ Some v → IsFalse (begins_relation rest)
     → Spells ValueLevel (placed token span ∷ rest) (record { value = v; span = span }) rest
 atom_value e h = primary_value (atom e) h
 
@@ -200,17 +201,17 @@ app_are_entries =
 pub app_is_spelled : IsSpelling app_text app
 app_is_spelled = record { derived = (app_tokens, app_are_tokens, app_are_entries); shallow = simp depth_at (lit≤ tt); single = refl }
 
-abbrev doubled_tokens : List Placed
+abbrev pub doubled_tokens : List Placed
 doubled_tokens =
     (on (Plain (codes "a")) 0 1) ∷ (on Colon 1 2) ∷ (on (Plain (codes "x")) 3 4) ∷ (on (Plain (codes "a")) 5 6) ∷
     (on Colon 6 7) ∷ (on (Plain (codes "y")) 8 9) ∷ []
 
-doubled_are_tokens : AreTokens 9 doubled_text doubled_tokens
+pub doubled_are_tokens : AreTokens 9 doubled_text doubled_tokens
 doubled_are_tokens =
     single refl (single refl (gap refl (single refl (gap refl (single refl (single refl (gap refl (single refl
     (ends refl)))))))))
 
-doubled_are_entries : AreEntries doubled_tokens doubled
+pub doubled_are_entries : AreEntries doubled_tokens doubled
 doubled_are_entries =
     field_next (atom_value refl refl) (field_next (atom_value refl refl) no_entry)
 
@@ -228,5 +229,8 @@ rows_are_spelled = record {
   dune_file = dune_is_spelled;
   fmt_file = fmt_is_spelled;
   app_file = app_is_spelled;
-  twice = ((doubled_tokens, doubled_are_tokens, doubled_are_entries), refl);
+  all_escapes =
+      gives {part = 92 ∷ []} refl (gives {part = 34 ∷ []} refl (gives {part = 39 ∷ []} refl (gives {part = 10 ∷ []} refl (gives {part = 9 ∷ []} refl
+      (gives {part = 13 ∷ []} refl (gives {part = 8 ∷ []} refl (gives {part = 32 ∷ []} refl (gives {part = 65 ∷ []} refl (gives {part = 74 ∷ []} refl
+      (gives {part = []} refl (gives {part = 122 ∷ []} refl (closes refl))))))))))));
 }

@@ -4,3 +4,4 @@ pub mod OneFile
 pub mod OneFault
 pub mod Derived
 pub mod Folds
+pub mod Faulty

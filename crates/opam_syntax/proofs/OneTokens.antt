@@ -2,8 +2,8 @@
 use Rattle.std.proofs.Common.{◌≡◌, ℕ, Bool, List, ◌∷◌, ◌++◌, refl, sym, subst, ◌∙◌}
 use Rattle.opam_syntax.specs.declared.token.Token.{Token}
 use Rattle.opam_syntax.specs.declared.token.Token.TheVariants.{Text}
-use Rattle.opam_syntax.specs.Texts.{Piece, Closes, Gives, IsInside, closes, gives}
-use Rattle.opam_syntax.specs.Tokens.{First, End, Gap, Single, Quote, Placed, placed, span_between, AreTokens, ends, gap, single, text}
+use Rattle.opam_syntax.specs.Texts.{Piece, Closes, Gives, NoPiece, piece, IsInside, closes, gives}
+use Rattle.opam_syntax.specs.Tokens.{First, End, Gap, Single, Quote, NoToken, first, Placed, placed, span_between, AreTokens, ends, gap, single, text}
 
 clash_closes : {p : Piece} {a b c : List ℕ} {A : Type 0} → p ≡ Closes a → p ≡ Gives b c → A
 clash_closes {A} e f = let g = sym e ∙ f in absurd cc
@@ -87,3 +87,44 @@ same_tokens {total} {bytes} (text e i p) (text f j q) =
     let g = quote_of e f in
     let h = same_inside i (quoted_too g.0 g.1 j) in
     same_text total bytes h (same_tokens p (tokens_too h.1 q))
+
+-- what stands first decides what the bytes spell
+pub no_tokens : {total : ℕ} {bytes : List ℕ} {ts : List Placed} → first bytes ≡ NoToken → AreTokens total bytes ts → ⊥
+no_tokens e (ends f) = let g = sym e ∙ f in cc
+no_tokens e (gap f p) = let g = sym e ∙ f in cc
+no_tokens e (single f p) = let g = sym e ∙ f in cc
+no_tokens e (text f i p) = let g = sym e ∙ f in cc
+
+pub after_gap : {total : ℕ} {bytes r : List ℕ} {ts : List Placed} → first bytes ≡ Gap r → AreTokens total bytes ts → AreTokens total r ts
+after_gap e (ends f) = end_gap f e
+after_gap e (gap f p) = tokens_too (gap_of e f) p
+after_gap e (single f p) = gap_single e f
+after_gap e (text f i p) = gap_quote e f
+
+-- one token, and then others
+pub record After (total : ℕ) (bytes rest : List ℕ) (token : Token) (tokens : List Placed) : Type 0 where
+  pub others : List Placed
+  pub spelled : AreTokens total rest others
+  pub is : tokens ≡ placed token (span_between total bytes rest) ∷ others
+
+after_found : (total : ℕ) (bytes : List ℕ) {r s : List ℕ} {t u : Token} {us : List Placed} → (t ≡ u) × (r ≡ s) → AreTokens total s us
+    → After total bytes r t (placed u (span_between total bytes s) ∷ us)
+after_found total bytes {us = us} e p = let f = e.0 in let g = e.1 in record { others = us; spelled = tokens_too g p; is = cc }
+
+pub after_single : {total : ℕ} {bytes r : List ℕ} {t : Token} {ts : List Placed} → first bytes ≡ Single t r → AreTokens total bytes ts
+    → After total bytes r t ts
+after_single e (ends f) = end_single f e
+after_single e (gap f p) = gap_single f e
+after_single {total} {bytes} e (single f p) = after_found total bytes (single_of e f) p
+after_single e (text f i p) = single_quote e f
+
+pub no_text : {total : ℕ} {bytes inside : List ℕ} {long : Bool} {ts : List Placed} → first bytes ≡ Quote long inside
+    → ((text rest : List ℕ) → IsInside long inside text rest → ⊥) → AreTokens total bytes ts → ⊥
+no_text e h (ends f) = end_quote f e
+no_text e h (gap f p) = gap_quote f e
+no_text e h (single f p) = single_quote f e
+no_text e h (text {text = t} {rest = r} f i p) = let g = quote_of e f in h t r (quoted_too g.0 g.1 i)
+
+pub no_inside : {long : Bool} {bytes t r : List ℕ} → piece long bytes ≡ NoPiece → IsInside long bytes t r → ⊥
+no_inside e (closes f) = let g = sym e ∙ f in cc
+no_inside e (gives f p) = let g = sym e ∙ f in cc

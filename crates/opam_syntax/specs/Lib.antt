@@ -9,5 +9,6 @@ pub mod Doubles
 pub mod Trees
 pub mod Faults
 pub mod Spelling
+pub mod Samples
 pub mod Rows
 pub mod Laws

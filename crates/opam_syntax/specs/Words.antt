@@ -1,6 +1,6 @@
 -- Words: which bytes are a word, and which token it is (opam manual, file format: identifiers, booleans, integers). A word
 -- takes every word character that follows; a `+`, or one `:`, joins to it what goes on with a word character.
-use Rattle.std.specs.Prelude.{ℕ, ◌+◌, ◌-◌, ◌*◌, ◌^◌, ℤ, pos, neg_ℤ, List, [], ◌∷◌, length, Bool, true, false, not, codes, bytes_eq, nat_lt, nat_le, ◌==◌, ◌&&◌, ◌||◌, if◌then◌else◌}
+use Rattle.std.specs.Prelude.{ℕ, ◌+◌, ◌-◌, ◌*◌, ◌^◌, ℤ, pos, neg_ℤ, List, [], ◌∷◌, Bool, true, false, not, codes, bytes_eq, nat_lt, nat_le, ◌==◌, ◌&&◌, ◌||◌, if◌then◌else◌}
 use Rattle.std.specs.List.{list_all, list_any}
 use Rattle.std.specs.declared.option.Option.{Option}
 use Rattle.std.specs.declared.option.Option.TheVariants.{None, Some}
@@ -31,8 +31,10 @@ abbrev pub number_after : ℕ → List ℕ → ℕ
 number_after n [] = n
 number_after n (d ∷ digits) = number_after (10 * n + (d - 48)) digits
 
+-- one digit or more
 abbrev pub are_digits : List ℕ → Bool
-are_digits bytes = nat_lt 0 (length bytes) && list_all is_digit bytes
+are_digits [] = false
+are_digits (b ∷ bytes) = is_digit b && list_all is_digit bytes
 
 -- an integer without a sign is below 2^63
 abbrev pub natural_of : List ℕ → Option ℤ

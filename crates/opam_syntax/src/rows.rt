@@ -1,5 +1,5 @@
 // Worked rows of the grammar.
-ghost use Rattle.opam_syntax.specs.Rows.{RowsAreSpelled, SampleIsPrinted};
+ghost use Rattle.opam_syntax.specs.Rows.{RowsAreFaulty, RowsAreSpelled, SampleIsPrinted};
 
 /// A lock, three opam files and some short texts spell the items that a reader expects of them.
 pub fn rows_are_spelled()
@@ -9,4 +9,9 @@ pub fn rows_are_spelled()
 /// The canonical spelling of a file with a list, an identifier and a text in braces.
 pub fn sample_is_printed()
     ensures { SampleIsPrinted }
+{}
+
+/// Short texts that are stray, have ended early or have a doubled name, each at its place.
+pub fn rows_are_faulty()
+    ensures { RowsAreFaulty }
 {}
