@@ -11,7 +11,7 @@ use Rattle.opam_syntax.specs.Spelling.{value_text, layer_text, node_text}
 abbrev pub node_at : Value-F Value Node → Span → Node
 node_at value span = record { value = roll-Value value; span = span }
 
-fold_node : (A B : Type 0) (step : Value-F A B → A) (step' : Node-F A B → B) (value : Value-F Value Node) (span : Span)
+pub fold_node : (A B : Type 0) (step : Value-F A B → A) (step' : Node-F A B → B) (value : Value-F Value Node) (span : Span)
     → fold-Node A B step step' (node_at value span)
     ≡ step' (record { value = step (map-Value Value Node A B (fold-Value A B step step') (fold-Node A B step step') value); span = span })
 fold_node A B step step' value span =

@@ -5,3 +5,6 @@ pub mod OneFault
 pub mod Derived
 pub mod Folds
 pub mod Faulty
+pub mod Shorter
+pub mod Spanned
+pub mod SpannedFiles

@@ -1,10 +1,12 @@
 -- Laws of the grammar and of the faults.
-use Rattle.std.specs.Prelude.{◌≡◌, ◌≢◌, ℕ, List}
+use Rattle.std.specs.Prelude.{◌≡◌, ◌≢◌, ℕ, List, length, IsTrue}
+use Rattle.std.specs.List.{list_all}
 use Rattle.opam_syntax.specs.declared.fault.SyntaxFault.{SyntaxFault}
 use Rattle.opam_syntax.specs.declared.fault.SyntaxFault.TheVariants.{Memory}
 use Rattle.opam_syntax.specs.declared.file.File.{File}
 use Rattle.opam_syntax.specs.Files.{Entry, Derives}
 use Rattle.opam_syntax.specs.Trees.{items_of, IsTextOf}
+use Rattle.opam_syntax.specs.Spans.{span_within, contents_within}
 use Rattle.opam_syntax.specs.Faults.{IsFaultOf, IsStrayAt, IsEndedAt, IsDoubledAt}
 
 -- bytes spell at most one tree: two files of one text have the same items, at the same places
@@ -25,3 +27,8 @@ OneFaultForBytes = (bytes : List ℕ) (one other : SyntaxFault) → IsFaultOf by
 abbrev pub FilesHaveNoFault : Type 0
 FilesHaveNoFault = (bytes : List ℕ) (file : File) (place : ℕ) → IsTextOf bytes file
     → (¬ (IsStrayAt bytes place)) × (¬ (IsEndedAt bytes place)) × (¬ (IsDoubledAt bytes place))
+
+-- every node and every item of a file has a span of some bytes of its text
+abbrev pub SpansAreWithin : Type 0
+SpansAreWithin = (bytes : List ℕ) (file : File) → IsTextOf bytes file
+    → IsTrue (list_all (λ item. contents_within (length bytes) item.1) (items_of file)) × IsTrue (list_all (span_within (length bytes)) file.places)

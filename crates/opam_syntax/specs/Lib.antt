@@ -9,6 +9,7 @@ pub mod Doubles
 pub mod Trees
 pub mod Faults
 pub mod Spelling
+pub mod Spans
 pub mod Samples
 pub mod Rows
 pub mod Laws

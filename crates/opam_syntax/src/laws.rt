@@ -1,5 +1,5 @@
 // Laws of the grammar.
-ghost use Rattle.opam_syntax.specs.Laws.{FilesHaveNoFault, OneDerivation, OneFaultForBytes, OneTreeForBytes};
+ghost use Rattle.opam_syntax.specs.Laws.{FilesHaveNoFault, OneDerivation, OneFaultForBytes, OneTreeForBytes, SpansAreWithin};
 
 /// Bytes spell at most one tree: two files of one text have the same items, at the same places.
 pub fn one_tree_for_bytes()
@@ -19,4 +19,9 @@ pub fn one_fault_for_bytes()
 /// The text of a file is nowhere stray, has not ended early and has no doubled name.
 pub fn files_have_no_fault()
     ensures { FilesHaveNoFault }
+{}
+
+/// Every node and every item of a file has a span of some bytes of its text.
+pub fn spans_are_within()
+    ensures { SpansAreWithin }
 {}

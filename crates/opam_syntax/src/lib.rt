@@ -10,6 +10,8 @@ mod tree;
 
 pub use fault::SyntaxFault;
 pub use file::{File, Item, Key, Label, Word};
-pub use laws::{files_have_no_fault, one_derivation, one_fault_for_bytes, one_tree_for_bytes};
+pub use laws::{
+    files_have_no_fault, one_derivation, one_fault_for_bytes, one_tree_for_bytes, spans_are_within,
+};
 pub use rows::{rows_are_faulty, rows_are_spelled, sample_is_printed};
 pub use tree::{EnvOp, Node, RelOp, Span, Value, Var};
