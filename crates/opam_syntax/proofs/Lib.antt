@@ -8,3 +8,4 @@ pub mod Faulty
 pub mod Shorter
 pub mod Spanned
 pub mod SpannedFiles
+pub mod Shallow

@@ -20,7 +20,7 @@ fields_stop : {tokens : List Placed} {fields : List (List ℕ × Node)} {places 
 fields_stop {tokens} no_field h = closed tokens h
 fields_stop (field p q) h = refl
 
-entries_stop : {tokens : List Placed} {entries : List Entry} → AreEntries tokens entries → stops ValueLevel tokens ≡ true
+pub entries_stop : {tokens : List Placed} {entries : List Entry} → AreEntries tokens entries → stops ValueLevel tokens ≡ true
 entries_stop no_entry = refl
 entries_stop (field_next p q) = refl
 entries_stop (section_next p q) = refl

@@ -1,7 +1,8 @@
 -- Worked rows: which texts spell what, and why some are no files.
 use Rattle.std.specs.Prelude.{◌≡◌, ℕ, List, [], ◌∷◌, false, codes}
 use Rattle.opam_syntax.specs.declared.file.File.{File}
-use Rattle.opam_syntax.specs.Faults.{IsStrayAt, IsEndedAt, IsDoubledAt}
+use Rattle.opam_syntax.specs.declared.fault.SyntaxFault.TheVariants.{Ended, Stray, Doubled}
+use Rattle.opam_syntax.specs.Faults.{IsFaultOf}
 use Rattle.opam_syntax.specs.Samples.{sample_text, sample, lock_text, lock, dune_text, dune, fmt_text, fmt, app_text, app, doubled_text}
 use Rattle.opam_syntax.specs.Spelling.{file_text}
 use Rattle.opam_syntax.specs.Texts.{IsInside}
@@ -24,14 +25,17 @@ pub record RowsAreSpelled : Type 0 where
   pub app_file : IsSpelling app_text app
   pub all_escapes : IsInside false escapes_text escapes []
 
--- where these texts are no files
+-- what is wrong with these texts, and where
 pub record RowsAreFaulty : Type 0 where
-  pub scoped_name : IsStrayAt (codes "a:x") 2
-  pub unknown_escape : IsStrayAt (codes "a: \"\\q\"") 5
-  pub lone_minus : IsEndedAt (codes "a: 12 b: -") 10
-  pub too_large : IsEndedAt (codes "a: 9223372036854775808") 22
-  pub too_large_and_over : IsStrayAt (codes "a: 9223372036854775808 ") 22
-  pub twice : IsDoubledAt doubled_text 5
+  pub scoped_name : IsFaultOf (codes "a:x") (Stray 2)
+  pub unknown_escape : IsFaultOf (codes "a: \"\\q\"") (Stray 5)
+  pub lone_minus : IsFaultOf (codes "a: 12 b: -") (Ended 10)
+  pub too_large : IsFaultOf (codes "a: 9223372036854775808") (Ended 22)
+  pub too_large_and_over : IsFaultOf (codes "a: 9223372036854775808 ") (Stray 22)
+  pub second_value : IsFaultOf (codes "a: x (y") (Stray 6)
+  pub maybe_comment : IsFaultOf (codes "a: x (") (Ended 6)
+  pub second_sign : IsFaultOf (codes "f: a = b = c") (Stray 10)
+  pub twice : IsFaultOf doubled_text (Doubled 5)
 
 -- the canonical spelling of a file with the items of the sample
 abbrev pub SampleIsPrinted : Type 0
