@@ -30,7 +30,7 @@ relation_value p = no_update (disjunction (last_disjunct (conjunction (last_conj
 braced_value : {tokens rest : List Placed} {n : Node} → Spells BracedLevel tokens n rest → IsFalse (begins_relation rest) → Spells ValueLevel tokens n rest
 braced_value p h = relation_value (alone p h)
 
-primary_value : {tokens rest : List Placed} {n : Node} → Spells PrimaryLevel tokens n rest → IsFalse (begins_relation rest) → Spells ValueLevel tokens n rest
+pub primary_value : {tokens rest : List Placed} {n : Node} → Spells PrimaryLevel tokens n rest → IsFalse (begins_relation rest) → Spells ValueLevel tokens n rest
 primary_value p h = braced_value (bare p) h
 
 pub atom_value : {token : Token} {v : Value} {span : Span} {rest : List Placed} → atom_of token ≡ Some v → IsFalse (begins_relation rest)

@@ -15,6 +15,7 @@ use Rattle.opam_syntax.specs.Rows.{RowsAreFaulty}
 use Rattle.opam_syntax.specs.Samples.{span, word, int}
 use Rattle.opam_syntax.specs.Samples as samples
 use Rattle.opam_syntax.proofs.Derived.{on, atom_value, doubled_tokens, doubled_are_tokens, doubled_are_entries}
+use Rattle.opam_syntax.proofs.Deeply.{too_many_lists}
 use Rattle.opam_syntax.proofs.OneFile.{entries_stop}
 use Rattle.opam_syntax.proofs.OneTree.{same, stops}
 use Rattle.opam_syntax.proofs.Shallow.{short_is_shallow}
@@ -261,4 +262,5 @@ rows_are_faulty = record {
     },
   );
   twice = (short_is_shallow _ (lit≤ tt), (samples.doubled, (doubled_tokens, doubled_are_tokens, doubled_are_entries), refl));
+  too_many_lists = too_many_lists;
 }

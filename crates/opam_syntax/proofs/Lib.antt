@@ -9,3 +9,4 @@ pub mod Shorter
 pub mod Spanned
 pub mod SpannedFiles
 pub mod Shallow
+pub mod Deeply

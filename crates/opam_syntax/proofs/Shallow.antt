@@ -48,11 +48,11 @@ begins_before : (place : ℕ) (span : Span) → is_in place span ≡ true → sp
 begins_before place span h = let e = both_left (nat_le span.start place) (nat_lt place span.end) h in grind (arith, nat_tests)
 
 -- what the parts of a value say of a place
-abbrev parts_around : ℕ → Value-F Value Node → Option ℕ
+abbrev pub parts_around : ℕ → Value-F Value Node → Option ℕ
 parts_around place shape =
     layer_around (map-Value Value Node (Option ℕ) (Option ℕ) (fold-Value (Option ℕ) (Option ℕ) layer_around (node_around place)) (around place) shape)
 
-around_at : (place : ℕ) (shape : Value-F Value Node) (span : Span) → around place (node_at shape span)
+pub around_at : (place : ℕ) (shape : Value-F Value Node) (span : Span) → around place (node_at shape span)
     ≡ (if is_in place span then first_of (parts_around place shape) (Some 0) else None)
 around_at place = fold_node (Option ℕ) (Option ℕ) layer_around (node_around place)
 
@@ -205,14 +205,14 @@ mutual
       }
 
 fields_bounded : {tokens : List Placed} {fields : List (List ℕ × Node)} {places : List ℕ} {rest : List Placed} → AreFields tokens fields places rest
-    → (total from place : ℕ) → InOrder total from tokens → Bounded place from (first_among (map (λ f. around place f.1) fields))
+    → (total from place : ℕ) → InOrder total from tokens → Bounded place (from + 2) (first_among (map (λ f. around place f.1) fields))
 fields_bounded no_field total at place o = tt
 fields_bounded (field {at = sign} {value = v} {fields = fields} p q) total at place o =
     let a = lies p total sign.end o.2.2 in
     let b = o.0 in let c = o.1 in let d = o.2.0 in let e = o.2.1 in let f = a.from in let g = a.some in
-    bounded_first place at (around place v) (first_among (map (λ f. around place f.1) fields))
-    (bounded_sooner place at v.span.start (around place v) (omega arith) (bounded p total sign.end place o.2.2))
-    (bounded_sooner place at v.span.end (first_among (map (λ f. around place f.1) fields)) (omega arith) (fields_bounded q total v.span.end place a.after))
+    bounded_first place (at + 2) (around place v) (first_among (map (λ f. around place f.1) fields))
+    (bounded_sooner place (at + 2) v.span.start (around place v) (omega arith) (bounded p total sign.end place o.2.2))
+    (bounded_sooner place (at + 2) (v.span.end + 2) (first_among (map (λ f. around place f.1) fields)) (omega arith) (fields_bounded q total v.span.end place a.after))
 
 fields_after : {tokens : List Placed} {fields : List (List ℕ × Node)} {places : List ℕ} {to : Placed} {rest : List Placed} → AreFields tokens fields places (to ∷ rest)
     → (total from : ℕ) → InOrder total from tokens → (next : ℕ) × InOrder total next (to ∷ rest)
@@ -222,42 +222,44 @@ fields_after (field {at = sign} {value = v} p q) total at o = fields_after q tot
 abbrev in_entries : ℕ → List Entry → Option ℕ
 in_entries place entries = first_among (map (λ entry. contents_around place entry.contents) entries)
 
-bounded_section : (place next : ℕ) (o p : Option ℕ) → 0 < next → Bounded place next o → Bounded place 0 p → Bounded place 0 (first_of (deeper o) p)
-bounded_section place next o p l b c = bounded_first place 0 (deeper o) p (bounded_deeper place 0 next o l b) c
+bounded_section : (place next : ℕ) (o p : Option ℕ) → 2 < next → Bounded place next o → Bounded place 2 p → Bounded place 2 (first_of (deeper o) p)
+bounded_section place next o p l b c = bounded_first place 2 (deeper o) p (bounded_deeper place 2 next o l b) c
 
 entries_bounded : {tokens : List Placed} {entries : List Entry} → AreEntries tokens entries → (total from place : ℕ) → InOrder total from tokens
-    → Bounded place 0 (in_entries place entries)
+    → Bounded place 2 (in_entries place entries)
 entries_bounded no_entry total at place o = tt
 entries_bounded (field_next {at = sign} {value = v} {entries = entries} p q) total at place o =
     let a = lies p total sign.end o.2.2 in
-    bounded_first place 0 (around place v) (in_entries place entries)
-    (bounded_sooner place 0 v.span.start (around place v) (omega arith) (bounded p total sign.end place o.2.2))
+    let b = o.0 in let c = o.1 in let d = o.2.0 in let e = o.2.1 in let f = a.from in
+    bounded_first place 2 (around place v) (in_entries place entries)
+    (bounded_sooner place 2 v.span.start (around place v) (omega arith) (bounded p total sign.end place o.2.2))
     (entries_bounded q total v.span.end place a.after)
 entries_bounded (section_next {at = sign} {to = to} {fields = fields} {entries = entries} p q) total at place o =
     let b = o.1 in let c = o.2.0 in let d = o.2.1 in
     let e = fields_after p total sign.end o.2.2 in
-    bounded_section place sign.end (first_among (map (λ f. around place f.1) fields)) (in_entries place entries) (omega arith)
+    bounded_section place (sign.end + 2) (first_among (map (λ f. around place f.1) fields)) (in_entries place entries) (omega arith)
     (fields_bounded p total sign.end place o.2.2) (entries_bounded q total to.end place e.1.2)
 entries_bounded (labelled_next {at = sign} {to = to} {fields = fields} {entries = entries} p q) total at place o =
     let b = o.1 in let c = o.2.0 in let d = o.2.1 in let f = o.2.2.0 in let g = o.2.2.1 in
     let e = fields_after p total sign.end o.2.2.2 in
-    bounded_section place sign.end (first_among (map (λ f. around place f.1) fields)) (in_entries place entries) (omega arith)
+    bounded_section place (sign.end + 2) (first_among (map (λ f. around place f.1) fields)) (in_entries place entries) (omega arith)
     (fields_bounded p total sign.end place o.2.2.2) (entries_bounded q total to.end place e.1.2)
 
-bounded_number : (place : ℕ) (o : Option ℕ) → Bounded place 0 o → unwrap_or o 0 ≤ place
-bounded_number place None b = omega arith
-bounded_number place (Some n) b = omega arith
+bounded_number : (place : ℕ) (o : Option ℕ) → Bounded place 2 o → 0 < unwrap_or o 0 → unwrap_or o 0 + 2 ≤ place
+bounded_number place None b l = absurd (omega arith)
+bounded_number place (Some n) b l = omega arith
 
+-- a field has a name and a colon before its value
 pub nesting_bounded : (total place : ℕ) (tokens : List Placed) (entries : List Entry) → InOrder total 0 tokens → AreEntries tokens entries
-    → nesting_at place entries ≤ place
+    → 0 < nesting_at place entries → nesting_at place entries + 2 ≤ place
 nesting_bounded total place tokens entries o p = bounded_number place (in_entries place entries) (entries_bounded p total 0 place o)
 
-not_so_soon : (bytes : List ℕ) (place : ℕ) → NestsAt bytes place → 64 ≤ place
+pub not_so_soon : (bytes : List ℕ) (place : ℕ) → NestsAt bytes place → 66 ≤ place
 not_so_soon bytes place n =
     let total = length (bytes ++ n.more) in
     let o : InOrder total (total - total) n.tokens = in_order n.spelled (omega arith) in
-    let b = nesting_bounded total place n.tokens n.entries (subst (λ z. InOrder total z n.tokens) (omega arith) o) n.derived in
     let c = n.nested in
+    let b = nesting_bounded total place n.tokens n.entries (subst (λ z. InOrder total z n.tokens) (omega arith) o) n.derived (omega arith) in
     omega arith
 
 -- a short text is nowhere too deep

@@ -1,7 +1,7 @@
 -- Worked rows: which texts spell what, and why some are no files.
-use Rattle.std.specs.Prelude.{◌≡◌, ℕ, List, [], ◌∷◌, false, codes}
+use Rattle.std.specs.Prelude.{◌≡◌, ℕ, List, [], ◌∷◌, ◌++◌, replicate, false, codes}
 use Rattle.opam_syntax.specs.declared.file.File.{File}
-use Rattle.opam_syntax.specs.declared.fault.SyntaxFault.TheVariants.{Ended, Stray, Doubled}
+use Rattle.opam_syntax.specs.declared.fault.SyntaxFault.TheVariants.{Ended, Stray, Deep, Doubled}
 use Rattle.opam_syntax.specs.Faults.{IsFaultOf}
 use Rattle.opam_syntax.specs.Samples.{sample_text, sample, lock_text, lock, dune_text, dune, fmt_text, fmt, app_text, app, doubled_text}
 use Rattle.opam_syntax.specs.Spelling.{file_text}
@@ -25,6 +25,10 @@ pub record RowsAreSpelled : Type 0 where
   pub app_file : IsSpelling app_text app
   pub all_escapes : IsInside false escapes_text escapes []
 
+-- a field whose value opens so many lists
+abbrev pub lists_opened : ℕ → List ℕ
+lists_opened n = codes "a:" ++ replicate n 91
+
 -- what is wrong with these texts, and where
 pub record RowsAreFaulty : Type 0 where
   pub scoped_name : IsFaultOf (codes "a:x") (Stray 2)
@@ -36,6 +40,7 @@ pub record RowsAreFaulty : Type 0 where
   pub maybe_comment : IsFaultOf (codes "a: x (") (Ended 6)
   pub second_sign : IsFaultOf (codes "f: a = b = c") (Stray 10)
   pub twice : IsFaultOf doubled_text (Doubled 5)
+  pub too_many_lists : IsFaultOf (lists_opened 65) (Deep 66)
 
 -- the canonical spelling of a file with the items of the sample
 abbrev pub SampleIsPrinted : Type 0
