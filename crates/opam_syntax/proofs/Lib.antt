@@ -10,3 +10,4 @@ pub mod Spanned
 pub mod SpannedFiles
 pub mod Shallow
 pub mod Deeply
+pub mod Printed

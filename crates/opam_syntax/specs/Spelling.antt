@@ -1,6 +1,6 @@
 -- The canonical spelling of a file: a line for each field, one space between values, short texts. This project's own.
-use Rattle.std.specs.Prelude.{ℕ, suc, ◌+◌, ◌/◌, ◌%◌, ℤ, pos, negsuc, List, [], ◌∷◌, ◌++◌, Bool, true, false, codes, nat_lt, ◌==◌, ◌||◌, if◌then◌else◌}
-use Rattle.std.specs.Fmt.{decimal}
+use Rattle.std.specs.Prelude.{ℕ, ◌+◌, ◌/◌, ◌%◌, List, [], ◌∷◌, ◌++◌, Bool, true, false, codes, nat_lt, ◌==◌, ◌||◌, if◌then◌else◌}
+use Rattle.std.specs.Fmt.{signed_decimal}
 use Rattle.std.specs.List.{flat_map}
 use Rattle.std.specs.declared.option.Option.{Option}
 use Rattle.std.specs.declared.option.Option.TheVariants.{None, Some}
@@ -40,10 +40,6 @@ abbrev pub flag_text : Bool → List ℕ
 flag_text true = codes "true"
 flag_text false = codes "false"
 
-abbrev pub int_text : ℤ → List ℕ
-int_text (pos n) = decimal n
-int_text (negsuc n) = 45 ∷ decimal (suc n)
-
 abbrev pub scope_text : Option (List ℕ) → List ℕ
 scope_text None = []
 scope_text (Some scope) = scope ++ codes ":"
@@ -54,7 +50,7 @@ variable_text variable = scope_text variable.scope ++ variable.name
 -- how a value is spelled, from how its parts are
 abbrev pub layer_text : Value-F (List ℕ) (List ℕ) → List ℕ
 layer_text (Value-F.Flag flag) = flag_text flag
-layer_text (Value-F.Int number) = int_text number
+layer_text (Value-F.Int number) = signed_decimal number
 layer_text (Value-F.Text bytes) = quoted bytes
 layer_text (Value-F.Ident variable) = variable_text variable
 layer_text (Value-F.List nodes) = codes "[" ++ joined_by (codes " ") nodes ++ codes "]"

@@ -13,5 +13,5 @@ pub use file::{File, Item, Key, Label, Word};
 pub use laws::{
     files_have_no_fault, one_derivation, one_fault_for_bytes, one_tree_for_bytes, spans_are_within,
 };
-pub use rows::{rows_are_faulty, rows_are_spelled, sample_is_printed};
+pub use rows::{rows_are_faulty, rows_are_spelled, sample_is_printed, values_are_printed};
 pub use tree::{EnvOp, Node, RelOp, Span, Value, Var};

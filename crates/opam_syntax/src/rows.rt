@@ -1,5 +1,5 @@
 // Worked rows of the grammar.
-ghost use Rattle.opam_syntax.specs.Rows.{RowsAreFaulty, RowsAreSpelled, SampleIsPrinted};
+ghost use Rattle.opam_syntax.specs.Rows.{RowsAreFaulty, RowsAreSpelled, SampleIsPrinted, ValuesArePrinted};
 
 /// A lock, three opam files and some short texts spell the items that a reader expects of them.
 pub fn rows_are_spelled()
@@ -14,4 +14,9 @@ pub fn sample_is_printed()
 /// Short texts that are stray, have ended early or have a doubled name, each at its place.
 pub fn rows_are_faulty()
     ensures { RowsAreFaulty }
+{}
+
+/// The canonical spelling of values of every kind, and of sections.
+pub fn values_are_printed()
+    ensures { ValuesArePrinted }
 {}
