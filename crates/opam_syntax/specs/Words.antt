@@ -1,10 +1,11 @@
 -- Words: which bytes are a word, and which token it is (opam manual, file format: identifiers, booleans, integers). A word
 -- takes every word character that follows; a `+`, or one `:`, joins to it what goes on with a word character.
-use Rattle.std.specs.Prelude.{ℕ, ◌+◌, ◌-◌, ◌*◌, ◌^◌, ℤ, pos, neg_ℤ, List, [], ◌∷◌, Bool, true, false, not, codes, bytes_eq, nat_lt, nat_le, ◌==◌, ◌&&◌, ◌||◌, if◌then◌else◌}
+use Rattle.std.specs.Prelude.{ℕ, ◌^◌, ℤ, pos, neg_ℤ, List, [], ◌∷◌, Bool, true, false, not, codes, bytes_eq, nat_lt, nat_le, ◌==◌, ◌&&◌, ◌||◌, if◌then◌else◌}
 use Rattle.std.specs.List.{list_all, list_any}
 use Rattle.std.specs.declared.option.Option.{Option}
 use Rattle.std.specs.declared.option.Option.TheVariants.{None, Some}
 use Rattle.opam_names.specs.Names.{is_letter, is_digit}
+use Rattle.opam_names.specs.Orders.{number}
 use Rattle.opam_names.specs.Paths.{onto_first}
 use Rattle.opam_syntax.specs.declared.token.Token.{Token}
 use Rattle.opam_syntax.specs.declared.token.Token.TheVariants.{Flag, Int, Plain, Scoped}
@@ -26,11 +27,6 @@ word_of joining [] = []
 word_of joining (b ∷ bytes) =
     if is_word_byte b || (joining && joins b bytes) then b ∷ word_of (joining && not (b == 58)) bytes else []
 
--- the number that digits spell, after a number that stands to their left
-abbrev pub number_after : ℕ → List ℕ → ℕ
-number_after n [] = n
-number_after n (d ∷ digits) = number_after (10 * n + (d - 48)) digits
-
 -- one digit or more
 abbrev pub are_digits : List ℕ → Bool
 are_digits [] = false
@@ -39,12 +35,12 @@ are_digits (b ∷ bytes) = is_digit b && list_all is_digit bytes
 -- an integer without a sign is below 2^63
 abbrev pub natural_of : List ℕ → Option ℤ
 natural_of digits =
-    if are_digits digits && nat_lt (number_after 0 digits) (2 ^ 63) then Some (pos (number_after 0 digits)) else None
+    if are_digits digits && nat_lt (number digits) (2 ^ 63) then Some (pos (number digits)) else None
 
 -- one with a minus is at least -2^63
 abbrev pub negative_of : List ℕ → Option ℤ
 negative_of digits =
-    if are_digits digits && nat_le (number_after 0 digits) (2 ^ 63) then Some (neg_ℤ (pos (number_after 0 digits))) else None
+    if are_digits digits && nat_le (number digits) (2 ^ 63) then Some (neg_ℤ (pos (number digits))) else None
 
 abbrev pub int_of : List ℕ → Option ℤ
 int_of [] = None
