@@ -1,4 +1,5 @@
 use command_words::{Change, Command, Query, Shown, WordFault, read_words};
+use opam_names::{Items, Name, Pkg, Text};
 use std::alloc::Global;
 use std::test::Fail;
 
@@ -10,8 +11,60 @@ fn read(alloc: Global, words: &[&str]) -> Result<Result<Command, WordFault>, Fai
     Ok(read_words(alloc, texts.as_slice()))
 }
 
+// What an install is of.
+fn install(read: Result<Command, WordFault>) -> Result<(Text, Text, u32, Items<Name>), Fail> {
+    match read {
+        Ok(
+            Command::Change(
+                Change::Install {
+                    lock_file,
+                    repo,
+                    jobs,
+                    names,
+                },
+            ),
+        ) => Ok((lock_file, repo, jobs, names)),
+        _ => Err("an install is not read")?,
+    }
+}
+
+// What a removal is of.
+fn removal(read: Result<Command, WordFault>) -> Result<(u32, Items<Name>), Fail> {
+    match read {
+        Ok(Command::Change(Change::Remove { jobs, names })) => Ok((jobs, names)),
+        _ => Err("a removal is not read")?,
+    }
+}
+
+// The folder and the package of a query for one package.
+fn package(read: Result<Command, WordFault>) -> Result<(Text, Pkg), Fail> {
+    let Ok(Command::Query(Query::Show { repo, what })) = read else {
+        return Err("nothing is to be shown")?;
+    };
+    match what {
+        Shown::Exact(pkg) => Ok((repo, pkg)),
+        Shown::Name(_) => Err("a package is read as a name")?,
+    }
+}
+
+// The file of a query for its faults.
+fn file(read: Result<Command, WordFault>) -> Result<Text, Fail> {
+    match read {
+        Ok(Command::Query(Query::Lint { file })) => Ok(file),
+        _ => Err("a file to look at is not read")?,
+    }
+}
+
+// What is said of a command line that is refused.
+fn refusal(alloc: Global, read: Result<Command, WordFault>) -> Result<String, Fail> {
+    match read {
+        Err(fault) => Ok(fault.text(alloc)?),
+        Ok(_) => Err("a command line is read")?,
+    }
+}
+
 #[test]
-fn changes_are_read(rt: HostRuntime) -> Result<(), Fail> {
+fn installs_are_read(rt: HostRuntime) -> Result<(), Fail> {
     let alloc = rt.alloc();
     let words = [
         "install",
@@ -23,59 +76,46 @@ fn changes_are_read(rt: HostRuntime) -> Result<(), Fail> {
         "a",
         "b",
     ];
-    let Ok(
-        Command::Change(
-            Change::Install {
-                lock_file,
-                repo,
-                jobs,
-                names,
-            },
-        ),
-    ) = read(alloc, &words)?
-    else {
-        return Err("an install is not read")?;
-    };
+    let (lock_file, repo, jobs, names) = install(read(alloc, &words)?)?;
     assert_eq!(rt; lock_file.as_str(), "l");
     assert_eq!(rt; repo.as_str(), ".");
     assert_eq!(rt; jobs, 2);
     assert_eq!(rt; names.len(), 2);
-    for (at, name) in names.as_slice().iter().enumerate() {
-        assert_eq!(rt; name.as_str(), if at == 0 { "a" } else { "b" });
+    for (name, wanted) in names.as_slice().iter().zip(["a", "b"].as_slice()) {
+        assert_eq!(rt; name.as_str(), *wanted);
     }
-    let Ok(Command::Change(Change::Remove { jobs, names })) = read(alloc, &["remove", "a"])? else {
-        return Err("a removal is not read")?;
-    };
+    Ok(())
+}
+
+#[test]
+fn removals_are_read(rt: HostRuntime) -> Result<(), Fail> {
+    let (jobs, names) = removal(read(rt.alloc(), &["remove", "a"])?)?;
     assert_eq!(rt; jobs, 4);
     assert_eq!(rt; names.len(), 1);
     Ok(())
 }
 
 #[test]
-fn queries_are_read(rt: HostRuntime) -> Result<(), Fail> {
+fn packages_to_show_are_read(rt: HostRuntime) -> Result<(), Fail> {
     let alloc = rt.alloc();
-    let Ok(Command::Query(Query::Show { repo, what })) = read(
-        alloc,
-        &["show", "--repo=r", "a.1.2"],
-    )?
-    else {
-        return Err("a package to show is not read")?;
-    };
+    let (repo, pkg) = package(read(alloc, &["show", "--repo=r", "a.1.2"])?)?;
     assert_eq!(rt; repo.as_str(), "r");
-    let Shown::Exact(pkg) = what else {
-        return Err("a package is read as a name")?;
-    };
     assert_eq!(rt; pkg.print(alloc)?.as_str(), "a.1.2");
-    match read(alloc, &["lint", "--", "-f"])? {
-        Ok(Command::Query(Query::Lint { file })) => assert_eq!(rt; file.as_str(), "-f"),
-        _ => return Err("a file to look at is not read")?,
-    }
-    match read(alloc, &["list", "x"])? {
-        Err(fault) => {
-            assert_eq!(rt; fault.text(alloc)?.as_str(), "one word too many: x");
-        }
-        Ok(_) => return Err("a word too many is read")?,
-    }
+    Ok(())
+}
+
+#[test]
+fn files_to_look_at_are_read(rt: HostRuntime) -> Result<(), Fail> {
+    let file = file(read(rt.alloc(), &["lint", "--", "-f"])?)?;
+    assert_eq!(rt; file.as_str(), "-f");
+    Ok(())
+}
+
+#[test]
+fn a_refusal_has_its_text(rt: HostRuntime) -> Result<(), Fail> {
+    let alloc = rt.alloc();
+    let text = refusal(alloc, read(alloc, &["list", "x"])?)?;
+    assert_eq!(rt; text.as_str(), "one word too many: x");
     Ok(())
 }
 
