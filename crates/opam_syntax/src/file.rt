@@ -4,14 +4,18 @@ ghost use Rattle.std.specs.Str.{bytes_eq};
 ghost use Rattle.std.proofs.Common.{rules};
 ghost use Rattle.std.specs.Hash as fed;
 ghost use Rattle.std.specs.Cmp.Rules.{comparing, hashing};
+ghost use Rattle.std.specs.Cmp.{partial_order_from_own_ties};
+ghost use Rattle.std.specs.Cmp.Lexicographic.{slice_cmp};
+ghost use Rattle.std.specs.Ordering.{as_partial_cmp, nat_cmp};
 
 use crate::{Node, Span};
 use indexmap::IndexMap;
 use sqlite_items::Items;
+use std::cmp::Ordering;
 use std::hash::{Hash, Hasher};
 use std::marker::Model;
 
-/// The name of a field or of a section, seen as its bytes.
+/// A word of a file, seen as its bytes: the name of a field, a section or a variable, or the scope of a variable.
 #[derive(Drop)]
 pub struct Word {
     inner: String,
@@ -64,6 +68,31 @@ impl Hash for Word {
 
     fn hash<H: Hasher>(&self, state: &mut H) {
         self.inner.as_str().hash(state);
+    }
+}
+
+// Words stand in the order of their bytes.
+impl Ord for Word {
+    ghost cmp = { slice_cmp nat_cmp };
+
+    ghost total = { Prim.search (comparing, rules) };
+
+    ghost matches_partial_cmp = { Prim.search (comparing, rules) };
+
+    ghost matches_eq = { Prim.search (comparing, rules) };
+
+    fn cmp(&self, other: &Word) -> Ordering {
+        self.inner.as_str().cmp(other.inner.as_str())
+    }
+}
+
+impl PartialOrd for Word {
+    ghost partial_cmp = { as_partial_cmp (slice_cmp nat_cmp) };
+
+    ghost laws = { partial_order_from_own_ties (Prim.search (comparing, rules)) (Prim.search (comparing, rules)) };
+
+    fn partial_cmp(&self, other: &Word) -> Option<Ordering> {
+        Some(self.cmp(other))
     }
 }
 

@@ -1,6 +1,5 @@
 // The tokens of an opam file.
-use crate::{EnvOp, RelOp};
-use opam_names::Text;
+use crate::{EnvOp, RelOp, Word};
 use sqlite_items::Items;
 
 /// A word, a text or a sign.
@@ -10,9 +9,9 @@ pub enum Token {
     Int(i64),
     Text(Items<u8>),
     /// A plain identifier.
-    Plain(Text),
+    Plain(Word),
     /// An identifier with its scope.
-    Scoped(Text, Text),
+    Scoped(Word, Word),
     Colon,
     OpenList,
     CloseList,

@@ -1,5 +1,5 @@
 // Values, as they stand in fields.
-use opam_names::Text;
+use crate::Word;
 use sqlite_items::{Boxed, Items};
 
 /// From the first byte of a spelling to past its last.
@@ -31,10 +31,10 @@ pub enum EnvOp {
 }
 
 /// A variable: its name, and the packages whose variable it is, as they are written before the colon.
-#[derive(Drop)]
+#[derive(Drop, PartialEq, Eq, PartialOrd, Ord)]
 pub struct Var {
-    pub scope: Option<Text>,
-    pub name: Text,
+    pub scope: Option<Word>,
+    pub name: Word,
 }
 
 /// A value with the place where it stands.
