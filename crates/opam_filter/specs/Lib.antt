@@ -1,0 +1,12 @@
+pub mod Variables
+pub mod Truths
+pub mod Scopes
+pub mod Texts
+pub mod Values
+pub mod NameSets
+pub mod Asked
+pub mod Faults
+pub mod Trees
+pub mod Reductions
+pub mod Sets
+pub mod Laws

@@ -1,0 +1,99 @@
+// The value of a variable: its own, or that of the same variable of several packages.
+ghost use Rattle.std.specs.FinMap as map;
+ghost use Rattle.std.specs.Prelude.{◌≡◌, IfOk, map};
+ghost use Rattle.opam_filter.specs.Scopes.{all_in, enable_value, joined_value, scoped, value_at};
+ghost use Rattle.opam_filter.specs.Truths.{truth_of};
+
+use crate::copies::scoped;
+use crate::parts::{are_joined, scope_parts};
+use crate::truths::{both, known_truth, value_of};
+use crate::{Truth, VarValue, Vars};
+use opam_names::{OutOfMemory, Text};
+use opam_syntax::Var;
+use std::alloc::Global;
+
+/// What a variable is.
+pub(crate) fn value_at(
+    alloc: Global,
+    vars: &Vars,
+    variable: &Var,
+) -> Result<Option<VarValue>, OutOfMemory>
+    ensures { IfOk result (λ value. value ≡ value_at vars.now variable.now) }
+{
+    let Some(scope) = &variable.scope else {
+        return own_value(alloc, vars, variable);
+    };
+    let parts = scope_parts(alloc, scope.as_str())?;
+    if are_joined(&parts) {
+        joined_value(alloc, vars, &parts, variable.name.as_str())
+    } else {
+        own_value(alloc, vars, variable)
+    }
+}
+
+// What the map has at a variable.
+fn own_value(alloc: Global, vars: &Vars, variable: &Var) -> Result<Option<VarValue>, OutOfMemory>
+    ensures { IfOk result (λ value. value ≡ map.get vars.now variable.now) }
+{
+    match vars.value(variable) {
+        Some(value) => Ok(Some(copy_value(alloc, value)?)),
+        None => Ok(None),
+    }
+}
+
+fn copy_value(alloc: Global, value: &VarValue) -> Result<VarValue, OutOfMemory>
+    ensures { IfOk result (λ copy. copy ≡ value.now) }
+{
+    match value {
+        VarValue::Flag(flag) => Ok(VarValue::Flag(*flag)),
+        VarValue::Text(text) => Ok(VarValue::Text(text.copy(alloc)?)),
+    }
+}
+
+// `enable` says whether all of the packages are installed.
+fn joined_value(
+    alloc: Global,
+    vars: &Vars,
+    parts: &[&str],
+    name: &str,
+) -> Result<Option<VarValue>, OutOfMemory>
+    ensures { IfOk result (λ value. value ≡ joined_value vars.now (map (λ part. part.now) parts.now) name.now) }
+{
+    if name == "enable" {
+        enable_value(alloc, all_in(alloc, vars, "installed", parts)?)
+    } else {
+        Ok(value_of(all_in(alloc, vars, name, parts)?))
+    }
+}
+
+fn enable_value(alloc: Global, truth: Truth) -> Result<Option<VarValue>, OutOfMemory>
+    ensures { IfOk result (λ value. value ≡ enable_value truth) }
+{
+    let word = match truth {
+        Truth::Yes => "enable",
+        Truth::No => "disable",
+        Truth::Undefined => return Ok(None),
+    };
+    Ok(Some(VarValue::Text(Text::from_str(alloc, word)?)))
+}
+
+// The `&` of the variables of this name with each part alone as scope.
+#[tactic(auto, using(crate::proofs::Joining::both_again, crate::proofs::Joining::both_yes))]
+fn all_in(alloc: Global, vars: &Vars, name: &str, parts: &[&str]) -> Result<Truth, OutOfMemory>
+    ensures { IfOk result (λ truth. truth ≡ all_in vars.now name.now (map (λ part. part.now) parts.now)) }
+{
+    let mut truth = Truth::Yes;
+    for part in parts {
+        truth = both(truth, truth_in(alloc, vars, part, name)?);
+    }
+    Ok(truth)
+}
+
+fn truth_in(alloc: Global, vars: &Vars, scope: &str, name: &str) -> Result<Truth, OutOfMemory>
+    ensures { IfOk result (λ truth. truth ≡ truth_of (map.get vars.now (scoped scope.now name.now))) }
+{
+    match vars.value(&scoped(alloc, scope, name)?) {
+        Some(value) => Ok(known_truth(value)),
+        None => Ok(Truth::Undefined),
+    }
+}

@@ -1,0 +1,12 @@
+// Laws of texts and of what is asked for, each proved as a clause of a function that does nothing.
+ghost use Rattle.opam_filter.specs.Laws.{AskedIsEnough, TextsAreCut};
+
+/// The parts of a text are the text: each interpolation goes from the first `%{` up to the next `}%`, and none is left.
+pub fn texts_are_cut()
+    ensures { TextsAreCut }
+{}
+
+/// Of the packages, the value of a filter or of a text depends on those that it asks for alone.
+pub fn asked_is_enough()
+    ensures { AskedIsEnough }
+{}
