@@ -78,7 +78,7 @@ fn reduce_atom(
 }
 
 // Braces with their filters and right sides answered.
-#[cycle(test)]
+#[cycle(braces)]
 fn test_of(alloc: Global, braces: &Braces, vars: &Vars) -> Result<Test, OutOfMemory>
     ensures { IfOk result (λ test. test ≡ test_of vars.now braces.now) }
 {
@@ -90,7 +90,7 @@ fn test_of(alloc: Global, braces: &Braces, vars: &Vars) -> Result<Test, OutOfMem
     }
 }
 
-#[cycle(test)]
+#[cycle(braces)]
 fn tests_of(alloc: Global, parts: &[Braces], vars: &Vars) -> Result<Items<Test>, OutOfMemory>
     ensures { IfOk result (λ tests. tests ≡ map (test_of vars.now) parts.now) }
 {
