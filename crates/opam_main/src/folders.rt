@@ -1,4 +1,8 @@
 // Folders of the machine. A link to a folder counts as a file.
+ghost use Rattle.std.specs.Prelude.{◌≡◌, ◌∷◌, ◌+◌, IfOk, IfSome, drop, string_bytes, take};
+ghost use Rattle.opam_names.specs.Paths.{joined};
+ghost use Rattle.opam_main.specs.Folders.{folder_of};
+
 use crate::fault::FileError;
 use crate::files::found_at;
 use std::alloc::{AllocError, Global};
@@ -7,7 +11,9 @@ use std::io::ErrorKind;
 use std::rt::Files;
 
 /// The path of what stands below a folder.
-pub fn path_below(alloc: Global, folder: &str, path: &str) -> Result<String, AllocError> {
+pub fn path_below(alloc: Global, folder: &str, path: &str) -> Result<String, AllocError>
+    ensures { IfOk result (λ full. string_bytes full ≡ joined folder.now path.now) }
+{
     let mut full = String::from_str(alloc, folder)?;
     full.push_str("/")?;
     full.push_str(path)?;
@@ -15,7 +21,9 @@ pub fn path_below(alloc: Global, folder: &str, path: &str) -> Result<String, All
 }
 
 /// The folder in which a path stands.
-pub fn folder_of(path: &str) -> &str {
+pub fn folder_of(path: &str) -> &str
+    ensures { result.now ≡ folder_of path.now }
+{
     match path.rsplit_once('/') {
         Some(("", _)) => "/",
         Some((folder, _)) => folder,
@@ -56,7 +64,10 @@ pub fn make_way<R: Files>(
 }
 
 // The first bytes of a path, where a slash comes after them.
-fn folder_to(path: &str, end: usize) -> Option<&str> {
+fn folder_to(path: &str, end: usize) -> Option<&str>
+    ensures value { IfSome result (λ folder. folder.now ≡ take end path.now) }
+    ensures slash { IfSome result (λ folder. drop end path.now ≡ 47 ∷ drop (end + 1) path.now) }
+{
     match path.split_at_checked(end) {
         Some((folder, rest)) if rest.starts_with('/') => Some(folder),
         _ => None,

@@ -1,4 +1,8 @@
 // What the program learns of its surroundings before its run.
+ghost use Rattle.std.specs.Prelude.{◌≡◌, List, ℕ, IfOk, codes, string_bytes};
+ghost use Rattle.opam_names.specs.Paths.{joined};
+ghost use Rattle.opam_main.specs.Start.{start_number};
+
 use opam_names::{Items, OutOfMemory, Text};
 use opam_top::{Facts, VarValue};
 use std::alloc::{AllocError, AllocFailed, Global};
@@ -21,26 +25,34 @@ pub enum StartError {
 }
 
 impl From<AllocError> for StartError {
-    fn from(_: AllocError) -> Self {
+    fn from(_: AllocError) -> Self
+        ensures { result ≡ StartError.Memory }
+    {
         StartError::Memory
     }
 }
 
 impl<T: Drop> From<AllocFailed<T>> for StartError {
-    fn from(_: AllocFailed<T>) -> Self {
+    fn from(_: AllocFailed<T>) -> Self
+        ensures { result ≡ StartError.Memory }
+    {
         StartError::Memory
     }
 }
 
 impl From<OutOfMemory> for StartError {
-    fn from(_: OutOfMemory) -> Self {
+    fn from(_: OutOfMemory) -> Self
+        ensures { result ≡ StartError.Memory }
+    {
         StartError::Memory
     }
 }
 
 impl StartError {
     /// The number that the program ends with.
-    pub fn number(&self) -> u8 {
+    pub fn number(&self) -> u8
+        ensures { result ≡ start_number self.now }
+    {
         match self {
             StartError::Arguments(_) | StartError::Variable(_) => 2,
             StartError::Folder(_) => 40,
@@ -70,7 +82,9 @@ pub fn arguments<R: Env + AllocGlobal>(rt: &R, alloc: Global) -> Result<Vec<Stri
 }
 
 /// The folder of the switch, `_opam` in the working folder.
-pub fn switch_folder<R: Env + AllocGlobal>(rt: &R, alloc: Global) -> Result<String, StartError> {
+pub fn switch_folder<R: Env + AllocGlobal>(rt: &R, alloc: Global) -> Result<String, StartError>
+    ensures { IfOk result (λ path. (folder : List ℕ) × (string_bytes path ≡ joined folder (codes "_opam"))) }
+{
     match env::current_dir(rt) {
         Ok(folder) => {
             let mut path = String::from_str(alloc, folder.as_str())?;
@@ -129,11 +143,9 @@ fn globals(alloc: Global) -> Result<Items<(Text, VarValue)>, StartError> {
 }
 
 /// What the run is told of this machine, and of the switch in the folder `prefix`.
-pub fn facts<R: Env + AllocGlobal>(
-    rt: &R,
-    alloc: Global,
-    prefix: &str,
-) -> Result<Facts, StartError> {
+pub fn facts<R: Env + AllocGlobal>(rt: &R, alloc: Global, prefix: &str) -> Result<Facts, StartError>
+    ensures { IfOk result (λ facts. facts.prefix ≡ prefix.now) }
+{
     Ok(Facts {
         prefix: Text::from_str(alloc, prefix)?,
         globals: globals(alloc)?,
