@@ -13,7 +13,7 @@ use Rattle.opam_names.specs.declared.fault.OutOfMemory.{OutOfMemory}
 use Rattle.outside_io.specs.declared.sink.Failed.{Failed}
 use Rattle.crash_disk.proofs.Order.{replay-push}
 use Rattle.crash_disk.specs.Disks.{State, Kept, Changes, TellsChange, TellsSync, with_file, is_loose}
-use Rattle.crash_disk.specs.Log.{Listed, Leaves, placed, loosened, kept, entries_of, first_state, after, replay, stored_by, stored_after, stored_first, stored_at}
+use Rattle.crash_disk.specs.Log.{Listed, PlacesAt, placed, loosened, kept, entries_of, first_state, after, replay, stored_by, stored_after, stored_first, stored_at}
 use Rattle.crash_disk.specs.declared.changes.Change.{Change}
 use Rattle.crash_disk.specs.declared.changes.Change.TheVariants.{Put, Removed, Loosened, Synced}
 use Rattle.crash_disk.specs.declared.changes.Entry.{Entry}
@@ -64,10 +64,10 @@ with_elsewhere : (s : State) (path q : List ℕ) (file : Option Kept) → IsFals
 with_elsewhere s path q None apart = get_removed s path q ∙ elsewhere (bytes_eq q path) None (get s.files q) apart
 with_elsewhere s path q (Some file) apart = get_put s path q file ∙ elsewhere (bytes_eq q path) (Some file) (get s.files q) apart
 
-pub put_leaves : (f : Listed) (path bytes : List ℕ) (exec : Bool) → f.0 ≡ path → f.1.items ≡ bytes → f.2 ≡ exec → Leaves path (Some (record { bytes = bytes; exec = exec })) (Put f)
+pub put_leaves : (f : Listed) (path bytes : List ℕ) (exec : Bool) → f.0 ≡ path → f.1.items ≡ bytes → f.2 ≡ exec → PlacesAt path (Some (record { bytes = bytes; exec = exec })) (Put f)
 put_leaves f path bytes exec a b c s = λ i. placed (a i) (Some (record { bytes = b i; exec = c i })) s
 
-pub removed_leaves : (gone path : List ℕ) → gone ≡ path → Leaves path None (Removed gone)
+pub removed_leaves : (gone path : List ℕ) → gone ≡ path → PlacesAt path None (Removed gone)
 removed_leaves gone path a s = λ i. placed (a i) None s
 
 -- what stands after a call
@@ -135,10 +135,10 @@ module _ (m : ℕ) (first first2 : Vec Listed) (log log1 log2 : List Entry) (pat
   old_state : state_of first2.items log1 ≡ state_of first.items log
   old_state = λ i. state_of (same_first i).items (same_log i)
 
-  pub placed_noted : (file : Option Kept) (given : Result Change OutOfMemory) (change : Change) → given ≡ Ok change → log2 ≡ log1 ++ record { moment = m; change = change } ∷ [] → IfOk given (λ made. Leaves path file made)
+  pub placed_noted : (file : Option Kept) (given : Result Change OutOfMemory) (change : Change) → given ≡ Ok change → log2 ≡ log1 ++ record { moment = m; change = change } ∷ [] → IfOk given (λ made. PlacesAt path file made)
       → State_is (placed path file (state_of first.items log))
   placed_noted file given change is noted leaves =
-      let leaves2 : Leaves path file change = subst (λ (r : Result Change OutOfMemory). IfOk r (λ made. Leaves path file made)) is leaves in
+      let leaves2 : PlacesAt path file change = subst (λ (r : Result Change OutOfMemory). IfOk r (λ made. PlacesAt path file made)) is leaves in
       grown first2.items log1 log2 m change noted ∙ leaves2 (state_of first2.items log1) ∙ ap (placed path file) old_state
 
   pub synced_noted : (change : Change) → made Synced ≡ made change → log2 ≡ log1 ++ record { moment = m; change = change } ∷ [] → State_is (after Synced (state_of first.items log))

@@ -42,8 +42,8 @@ after (Loosened path) s = loosened path s
 after Synced s = record { files = s.files; loose = [] }
 
 -- whatever was there before, the change leaves this at the path
-abbrev pub Leaves : List ℕ → Option Kept → Change → Type 0
-Leaves path file change = (s : State) → after change s ≡ placed path file s
+abbrev pub PlacesAt : List ℕ → Option Kept → Change → Type 0
+PlacesAt path file change = (s : State) → after change s ≡ placed path file s
 
 -- the oldest comes first
 abbrev pub replay : List Entry → State → State

@@ -5,7 +5,7 @@ ghost use Rattle.std.specs.Option.{option_copied};
 ghost use Rattle.std.specs.FinMap.{get};
 ghost use Rattle.crash_disk.specs.Below.{IsBelow, IsOut, NoneOf, NonePut};
 ghost use Rattle.crash_disk.specs.Disks.{IsLook, IsRead};
-ghost use Rattle.crash_disk.specs.Log.{Leaves, first_state, kept, replay, stored_at, stored_by, stored_first};
+ghost use Rattle.crash_disk.specs.Log.{PlacesAt, first_state, kept, replay, stored_at, stored_by, stored_first};
 
 use crate::{DiskFault, DiskRead, Look};
 use opam_names::{Items, OutOfMemory, RelPath};
@@ -175,7 +175,7 @@ pub(crate) fn make_put(
     bytes: &[u8],
     exec: bool,
 ) -> Result<Change, OutOfMemory>
-    ensures { IfOk result (λ change. Leaves path.now (Some (record { bytes = bytes.now; exec = exec })) change) }
+    ensures { IfOk result (λ change. PlacesAt path.now (Some (record { bytes = bytes.now; exec = exec })) change) }
 {
     let path = path.copy(alloc)?;
     let bytes = Vec::from_slice(alloc, bytes)?;
@@ -183,7 +183,7 @@ pub(crate) fn make_put(
 }
 
 pub(crate) fn make_removed(alloc: Global, path: &RelPath) -> Result<Change, OutOfMemory>
-    ensures { IfOk result (λ change. Leaves path.now None change) }
+    ensures { IfOk result (λ change. PlacesAt path.now None change) }
 {
     Ok(Change::Removed(path.copy(alloc)?))
 }

@@ -4,7 +4,7 @@ ghost use Rattle.std.specs.Bool.{OnTrue, OnFalse};
 ghost use Rattle.std.specs.declared.option.Option.{Option};
 ghost use Rattle.outside_io.specs.Counts.{Rose, last_count};
 ghost use Rattle.crash_disk.specs.Disks.{ClaimGives, Counted, CountedRead, Elapses, Kept, Looks, Reads, TellsChange, TellsSync};
-ghost use Rattle.crash_disk.specs.Log.{Leaves, first_state, placed, replay};
+ghost use Rattle.crash_disk.specs.Log.{PlacesAt, first_state, placed, replay};
 ghost use Rattle.crash_disk.specs.Memory.{FailsLoose, fails_next, shown, told_at, told_now, told_taken};
 ghost use Rattle.crash_disk.specs.declared.changes.Change.{Change};
 
@@ -184,7 +184,7 @@ impl MemoryDisk {
         ensures held { self.new.held ≡ self.old.held }
         ensures taken { self.new.taken ≡ self.old.taken }
         ensures fail { self.new.fail ≡ self.old.fail }
-        ensures done { (file : Option Kept) → IfOk change (λ made. Leaves path.now file made) → OnOk result ((shown self.new).state ≡ placed path.now file (shown self.old).state) }
+        ensures done { (file : Option Kept) → IfOk change (λ made. PlacesAt path.now file made) → OnOk result ((shown self.new).state ≡ placed path.now file (shown self.old).state) }
         ensures loose { OnErr result (FailsLoose path.now (shown self.old) (shown self.new)) }
         ensures time { Elapses self.old.calls self.new.calls (told_at (shown self.old)) (told_at (shown self.new)) (told_now (shown self.new)) }
         ensures listed { IsTrue (fails_next (shown self.old)) → IsErr result }
