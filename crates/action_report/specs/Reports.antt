@@ -40,25 +40,28 @@ line_of (Removed pkg) = codes "removed " ++ pkg_text pkg ++ codes "\n"
 line_of (Failed pkg reason) = codes "failed " ++ pkg_text pkg ++ codes ": " ++ reason_text pkg.name reason ++ codes "\n"
 line_of (Aborted pkg need) = codes "aborted " ++ pkg_text pkg ++ codes ": " ++ pkg_text need ++ codes "\n"
 
--- the decisions of each kind
+-- the package was installed
 abbrev pub is_installed : Decision → Bool
 is_installed (Installed pkg) = true
 is_installed (Removed pkg) = false
 is_installed (Failed pkg reason) = false
 is_installed (Aborted pkg need) = false
 
+-- the package was removed
 abbrev pub is_removed : Decision → Bool
 is_removed (Installed pkg) = false
 is_removed (Removed pkg) = true
 is_removed (Failed pkg reason) = false
 is_removed (Aborted pkg need) = false
 
+-- the package failed
 abbrev pub is_failed : Decision → Bool
 is_failed (Installed pkg) = false
 is_failed (Removed pkg) = false
 is_failed (Failed pkg reason) = true
 is_failed (Aborted pkg need) = false
 
+-- a need of the package was not there
 abbrev pub is_aborted : Decision → Bool
 is_aborted (Installed pkg) = false
 is_aborted (Removed pkg) = false

@@ -112,7 +112,7 @@ impl<'a, W: Workshop> Crew for SerialCrew<'a, W> {
         Ok(())
     }
 
-    /// Builds the oldest job.
+    /// Takes the oldest job, and answers its told fate. That it is built only now is in no clause.
     fn take_end(&mut self, alloc: Global) -> Result<(u32, Fate), OutOfMemory>
         requires busy { ⟦<SerialCrew<'a, W> as Crew>⟧.running self.old ≢ [] }
         ensures size { let crew = ⟦<SerialCrew<'a, W> as Crew>⟧ in crew.size self.new ≡ crew.size self.old }

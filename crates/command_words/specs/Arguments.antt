@@ -15,9 +15,11 @@ is_option [] = false
 is_option (b ∷ []) = false
 is_option (b ∷ c ∷ bytes) = b == 45
 
+-- the byte `=`
 abbrev pub is_equals : ℕ → Bool
 is_equals b = b == 61
 
+-- some byte of the word is `=`
 abbrev pub has_equals : List ℕ → Bool
 has_equals word = list_any is_equals word
 

@@ -13,10 +13,12 @@ abbrev pub RisesFrom : List ℕ → List (List ℕ) → Type 0
 RisesFrom name [] = Unit {0}
 RisesFrom name (next ∷ names) = (slice_cmp nat_cmp name next ≡ Less) × RisesFrom next names
 
+-- each name stands after the one before it
 abbrev pub Rises : List (List ℕ) → Type 0
 Rises [] = Unit {0}
 Rises (name ∷ names) = RisesFrom name names
 
+-- the argument is this plain word
 abbrev pub is_the_word : List ℕ → Argument → Bool
 is_the_word name (Given option value) = false
 is_the_word name (Plain word) = bytes_eq name word
@@ -26,5 +28,6 @@ pub record AreNames (given : List Argument) : Type 0 where
   pub rising : Rises (names_of given)
   pub those : (name : List ℕ) → list_any (bytes_eq name) (names_of given) ≡ list_any (is_the_word name) given
 
+-- that holds of all arguments
 abbrev pub NamesAreInOrder : Type 0
 NamesAreInOrder = (given : List Argument) → AreNames given

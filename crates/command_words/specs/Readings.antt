@@ -33,6 +33,7 @@ use Rattle.command_words.specs.declared.tables.PlainKind.TheVariants.{Nothing, N
 abbrev pub is_path : List ℕ → Bool
 is_path text = not (bytes_eq text []) && list_all is_not_zero text
 
+-- the first digit is a zero
 abbrev pub begins_with_zero : List ℕ → Bool
 begins_with_zero [] = false
 begins_with_zero (digit ∷ digits) = is_zero digit
@@ -41,10 +42,12 @@ begins_with_zero (digit ∷ digits) = is_zero digit
 abbrev pub is_jobs : List ℕ → Bool
 is_jobs text = list_all is_digit text && not (begins_with_zero text) && nat_le 1 (number text) && nat_le (number text) 64
 
+-- an option may have this value
 abbrev pub is_value : ValueKind → List ℕ → Bool
 is_value Path text = is_path text
 is_value Jobs text = is_jobs text
 
+-- some byte of the word is a dot
 abbrev pub has_dot : List ℕ → Bool
 has_dot word = list_any is_dot word
 
@@ -60,10 +63,12 @@ is_word SomeNames word = is_name word
 is_word Package word = is_shown word
 is_word File word = is_path word
 
+-- the argument is a plain word
 abbrev pub is_plain : Argument → Bool
 is_plain (Given name value) = false
 is_plain (Plain word) = true
 
+-- some argument is a plain word
 abbrev pub has_word : List Argument → Bool
 has_word given = list_any is_plain given
 
@@ -83,21 +88,26 @@ is_enough SomeNames given = has_word given
 is_enough Package given = has_word given
 is_enough File given = has_word given
 
+-- the argument gives this option
 abbrev pub gives : List ℕ → Argument → Bool
 gives option (Given name value) = bytes_eq option name
 gives option (Plain word) = false
 
+-- some argument gives this option
 abbrev pub is_given : List ℕ → List Argument → Bool
 is_given option given = list_any (gives option) given
 
+-- an option needs a value, and one that it may have
 abbrev pub fault_of_value : ValueKind → List ℕ → Option (List ℕ) → Option WordFault
 fault_of_value kind name None = Some (MissingValue name)
 fault_of_value kind name (Some text) = if is_value kind text then None else Some (BadValue name text)
 
+-- the fault of an option: it is unknown, comes again, or its value is wrong
 abbrev pub fault_of_known : Option ValueKind → Bool → List ℕ → Option (List ℕ) → Option WordFault
 fault_of_known None repeated name text = Some (UnknownOption name)
 fault_of_known (Some kind) repeated name text = if repeated then Some (Repeated name) else fault_of_value kind name text
 
+-- the fault of a plain word: it is one too many, or no such word
 abbrev pub fault_of_word : PlainKind → List Argument → List ℕ → Option WordFault
 fault_of_word words given word = if is_full words given then Some (ExtraWord word) else (if is_word words word then None else Some (BadName word))
 
@@ -106,6 +116,7 @@ abbrev pub fault_of : Row → List Argument → Argument → Option WordFault
 fault_of r given (Given name text) = fault_of_known (value_of r.options name) (is_given name given) name text
 fault_of r given (Plain word) = fault_of_word r.words given word
 
+-- an option that has to be given is given
 abbrev pub is_met : List Argument → Allowed → Bool
 is_met given option = not option.required || is_given option.name given
 
@@ -114,6 +125,7 @@ abbrev pub fault_at_end : List ℕ → Row → List Argument → Option WordFaul
 fault_at_end command r given =
     if list_all (is_met given) r.options then (if is_enough r.words given then None else Some (MissingWord command)) else Some MissingOption
 
+-- the first fault, where there are two
 abbrev pub or_later : Option WordFault → Option WordFault → Option WordFault
 or_later None later = later
 or_later (Some fault) later = Some fault
@@ -123,6 +135,7 @@ abbrev pub first_fault : List ℕ → Row → List Argument → List Argument �
 first_fault command r given [] = fault_at_end command r given
 first_fault command r given (next ∷ further) = or_later (fault_of r given next) (first_fault command r (given ++ next ∷ []) further)
 
+-- the value, or what stands for it
 abbrev pub value_or : List ℕ → Option (List ℕ) → List ℕ
 value_or text None = text
 value_or text (Some given) = given
@@ -137,6 +150,7 @@ option_or text option (Plain word ∷ given) = option_or text option given
 abbrev pub repo_of : List Argument → List ℕ
 repo_of given = option_or (codes ".") (codes "--repo") given
 
+-- the value of `--lock-file`
 abbrev pub lock_file_of : List Argument → List ℕ
 lock_file_of given = option_or [] (codes "--lock-file") given
 
@@ -144,6 +158,7 @@ lock_file_of given = option_or [] (codes "--lock-file") given
 abbrev pub jobs_of : List Argument → ℕ
 jobs_of given = number (option_or (codes "4") (codes "--jobs") given)
 
+-- a plain word more, put in the order of bytes
 abbrev pub with_name : List (List ℕ) → Argument → List (List ℕ)
 with_name names (Given name value) = names
 with_name names (Plain word) = insert_key (slice_cmp nat_cmp) names word
@@ -157,11 +172,13 @@ abbrev pub is_name_or_option : Argument → Bool
 is_name_or_option (Given name value) = true
 is_name_or_option (Plain word) = is_name word
 
+-- the first plain word
 abbrev pub first_word : List Argument → List ℕ
 first_word [] = []
 first_word (Given name value ∷ given) = first_word given
 first_word (Plain word ∷ given) = word
 
+-- a package, where the word has a dot, and else a name
 abbrev pub shown : List ℕ → Shown
 shown word = if has_dot word then Exact (record { name = before_first is_dot word; version = after_first is_dot word }) else Name word
 
@@ -174,10 +191,12 @@ command_of kind.List given = Query query.List
 command_of kind.Show given = Query (query.Show (repo_of given) (shown (first_word given)))
 command_of kind.Lint given = Query (query.Lint (first_word given))
 
+-- the command, where there is no fault
 abbrev pub unless_fault : Option WordFault → Command → Result Command WordFault
 unless_fault None command = Ok command
 unless_fault (Some fault) command = Err fault
 
+-- the command of this word and these arguments, or their first fault
 abbrev pub read_arguments : List ℕ → Option Kind → List Argument → Result Command WordFault
 read_arguments word None given = Err (UnknownCommand word)
 read_arguments word (Some k) given = unless_fault (first_fault word (row k) [] given) (command_of k given)

@@ -20,15 +20,19 @@ pub record Row : Type 0 where
   pub options : List Allowed
   pub words : PlainKind
 
+-- `--lock-file FILE`, which has to be given
 abbrev pub lock_file_option : Allowed
 lock_file_option = record { name = codes "--lock-file"; value = Path; required = true }
 
+-- `--repo DIR`
 abbrev pub repo_option : Allowed
 repo_option = record { name = codes "--repo"; value = Path; required = false }
 
+-- `--jobs N`
 abbrev pub jobs_option : Allowed
 jobs_option = record { name = codes "--jobs"; value = Jobs; required = false }
 
+-- the row of each command
 abbrev pub row : Kind → Row
 row Install = record { options = lock_file_option ∷ repo_option ∷ jobs_option ∷ []; words = Names }
 row Remove = record { options = jobs_option ∷ []; words = SomeNames }

@@ -3,6 +3,7 @@ use Rattle.std.specs.Prelude.{ℕ, List, [], ◌++◌, codes}
 use Rattle.command_words.specs.declared.fault.WordFault.{WordFault}
 use Rattle.command_words.specs.declared.fault.WordFault.TheVariants.{NoCommand, UnknownCommand, UnknownOption, Repeated, MissingValue, BadValue, BadName, ExtraWord, MissingOption, MissingWord, Memory}
 
+-- the text of each fault, without a newline
 abbrev pub fault_text : WordFault → List ℕ
 fault_text NoCommand = codes "no command"
 fault_text (UnknownCommand word) = codes "unknown command: " ++ word

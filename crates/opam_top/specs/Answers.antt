@@ -31,6 +31,7 @@ pub record Outside : Type 0 where
   pub disk : State
   pub shop : Told
 
+-- it is what these devices tell
 pub record IsOutside (outside : Outside) (host_tells : Option Files) (disk_tells : Option State) (shop_tells : Option Told) : Type 0 where
   pub files : host_tells ≡ Some outside.files
   pub disk : disk_tells ≡ Some outside.disk
@@ -49,6 +50,7 @@ pub record Run : Type 0 where
 abbrev pub status_by : List Decision → Status
 status_by decisions = if list_all is_done decisions then Done else Actions
 
+-- a run whose change came to this outcome
 abbrev pub changed : Outcome → Run
 changed o = record { status = status_by o.decisions; out = report o.decisions; err = []; refused = false; change = o }
 
@@ -72,16 +74,19 @@ status_by_stop Disk = DiskFailed
 status_by_stop NoMemory = Memory
 status_by_stop (Refused refusal) = status_of refusal.cause
 
+-- what is then said on standard error
 abbrev pub text_by_stop : Stop → List ℕ
 text_by_stop Host = codes "host fault\n"
 text_by_stop Disk = codes "disk fault\n"
 text_by_stop NoMemory = []
 text_by_stop (Refused refusal) = refusal.err
 
+-- the status of a run that came to this end
 abbrev pub status_at_end : {T : Type 0} → Result T Stop → List Decision → Status
 status_at_end (Ok x) decisions = status_by decisions
 status_at_end (Err stop) decisions = status_by_stop stop
 
+-- what is then on standard error
 abbrev pub text_at_end : {T : Type 0} → Result T Stop → List ℕ
 text_at_end (Ok x) = []
 text_at_end (Err stop) = text_by_stop stop
@@ -96,6 +101,7 @@ abbrev pub after_output_fault : Status → Status
 after_output_fault Done = OutFailed
 after_output_fault status = status
 
+-- the status, where the output has failed or not
 abbrev pub with_output : Bool → Status → Status
 with_output true status = after_output_fault status
 with_output false status = status
@@ -110,7 +116,7 @@ goes_through (Err (Refused refusal)) = true
 
 -- what a run leaves on the disk
 pub record LeftBy (run : Run) (old new : Tree) : Type 0 where
-  -- one that was not refused leaves just its records in the journal
+  -- one that was not refused leaves its records in the journal, and no gate after their last
   pub journal : run.refused ≡ false → Holds run.change.records new
   -- all else is as the switch has it
   pub others : (q : List ℕ) → IsFalse (is_in_journal q) → get new q ≡ get run.change.switch.files q
@@ -127,7 +133,7 @@ pub record IsRunOf {T : Type 0} (run : Run) (start : Tree) (end : Result T Stop)
   pub left : (s : State) × (disk ≡ Some s) × LeftBy run start s.files
 
 -- a run that the disk has stopped: the first decisions are reported and no summary, the receipts are those of what was
--- committed by them, and each of their jobs is heard, or one job more
+-- committed by them, and the jobs that were heard are the first ones, those of these decisions among them
 pub record IsHalted (o : Outcome) (ended : Ended) (before now : ℕ) (old new : Option (List ℕ)) : Type 0 where
   pub reported : ℕ
   pub within : reported ≤ length o.decisions

@@ -26,7 +26,7 @@ InOrder index from to (receipt ∷ receipts) = (receipt.index ≡ index) × (fro
 pub record AreReceipts (from to : ℕ) (receipts : List Receipt) : Type 0 where
   pub order : InOrder 0 from to receipts
 
--- at this moment just these records stood in the journal, and nothing was loose
+-- at this moment these records stood in the journal, the gate after their last was absent, and nothing was loose
 abbrev pub IsDated : (ℕ → Option State) → List Rec → ℕ → Type 0
 IsDated past records moment = (s : State) × (past moment ≡ Some s) × (s.loose ≡ []) × Holds records s.files
 
@@ -36,7 +36,7 @@ AreDatedFrom past done records [] = Unit {0}
 AreDatedFrom past done [] (receipt ∷ receipts) = ⊥
 AreDatedFrom past done (entry ∷ records) (receipt ∷ receipts) = IsDated past (done ++ entry ∷ []) receipt.moment × AreDatedFrom past (done ++ entry ∷ []) records receipts
 
--- each receipt is of a moment at which its own record and those before it were durable, and none after it stood there
+-- each receipt is of a moment at which its own record and those before it were durable, and the next gate was absent
 pub record AreDated (past : ℕ → Option State) (records : List Rec) (receipts : List Receipt) : Type 0 where
   pub each : AreDatedFrom past [] records receipts
 
@@ -53,7 +53,7 @@ pub record Tracks (progress : Progress) (o : Outcome) : Type 0 where
   pub number : length progress.receipts.items ≡ length o.records
   pub owners : owners_of progress.owners.items ≡ o.switch.owners
 
--- it ended within this outcome: the first decisions were made, and their jobs, or one more, were taken in
+-- it ended within this outcome: the first decisions were made, and at least their jobs, from the first on, were taken in
 pub record IsPartOf (progress : Progress) (o : Outcome) : Type 0 where
   pub decisions : progress.decisions.items ≡ take (length progress.decisions.items) o.decisions
   pub few : length progress.decisions.items ≤ length o.decisions

@@ -13,6 +13,7 @@ use Rattle.opam_top.specs.declared.records.Placed.{Placed}
 abbrev pub kept : Placed → Kept
 kept file = record { bytes = file.bytes; exec = file.exec }
 
+-- a file of these bytes that is not executable
 abbrev pub plain : List ℕ → Kept
 plain bytes = record { bytes = bytes; exec = false }
 
@@ -37,6 +38,7 @@ opened ready tree = insert tree ready.gate_path (plain gate_text)
 abbrev pub committed : Encoded → Tree → Tree
 committed ready tree = with_files (opened ready (recorded ready tree)) ready.puts
 
+-- the file stands at the path
 abbrev pub is_at : List ℕ → Placed → Bool
 is_at q file = bytes_eq q file.path
 
@@ -57,6 +59,7 @@ pub record TouchesOnly (touched : List ℕ → Bool) (before after : Option Stat
 abbrev pub Becomes : (Tree → Tree) → Option State → Option State → Type 0
 Becomes change before after = (old : State) → before ≡ Some old → (new : State) × (after ≡ Some new) × (new.files ≡ change old.files)
 
+-- the path begins with `bin/`
 abbrev pub begins_bin : List ℕ → Bool
 begins_bin path = bytes_eq (take 4 path) (codes "bin/")
 

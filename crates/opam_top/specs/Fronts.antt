@@ -31,6 +31,7 @@ opam_limit = 1048576
 abbrev pub opam_path : List ℕ → Pkg → List ℕ
 opam_path repo pkg = repo ++ codes "/packages/" ++ pkg.name ++ codes "/" ++ pkg_text pkg ++ codes "/opam"
 
+-- a package with its opam text and commands, where the text is built
 abbrev pub with_commands : Pkg → List ℕ → Option (List (List (List ℕ))) → Answer
 with_commands pkg opam None = NotBuilt
 with_commands pkg opam (Some commands) = Known (record { pkg = pkg; opam = opam; commands = commands })
@@ -40,24 +41,29 @@ abbrev pub answer_by : Pkg → Option (List ℕ) → Answer
 answer_by pkg None = Unknown pkg
 answer_by pkg (Some opam) = if nat_le (length opam) opam_limit then with_commands pkg opam (read_opam opam) else NotBuilt
 
+-- what the repository in a folder has of a package
 abbrev pub answer_of : Files → List ℕ → Pkg → Answer
 answer_of files repo pkg = answer_by pkg (get files (opam_path repo pkg))
 
+-- the package, where the repository lacks it
 abbrev pub unknown_of : Answer → Option Pkg
 unknown_of (Known member) = None
 unknown_of (Unknown pkg) = Some pkg
 unknown_of NotBuilt = None
 
+-- the package with its text, where the repository has it and it is built
 abbrev pub member_of : Answer → Option Member
 member_of (Known member) = Some member
 member_of (Unknown pkg) = None
 member_of NotBuilt = None
 
+-- the repository has the package, and its text is built
 abbrev pub is_known : Answer → Bool
 is_known (Known member) = true
 is_known (Unknown pkg) = false
 is_known NotBuilt = false
 
+-- packages that are lacked come before any other refusal
 abbrev pub unless_unknown : List Pkg → Result (List Member) Refusal → Result (List Member) Refusal
 unless_unknown [] later = later
 unless_unknown (pkg ∷ pkgs) later = Err (not_in_repository (pkg ∷ pkgs))
@@ -66,6 +72,7 @@ unless_unknown (pkg ∷ pkgs) later = Err (not_in_repository (pkg ∷ pkgs))
 abbrev pub members_of : List Answer → Result (List Member) Refusal
 members_of answers = unless_unknown (filter_map unknown_of answers) (if list_all is_known answers then Ok (filter_map member_of answers) else Err not_built)
 
+-- what a lock binds, or the refusal of one that is not built
 abbrev pub if_built : Option (List Pkg) → Result (List Pkg) Refusal
 if_built None = Err not_built
 if_built (Some pkgs) = Ok pkgs
@@ -75,6 +82,7 @@ abbrev pub bound_in_lock : List ℕ → Option (List ℕ) → Result (List Pkg) 
 bound_in_lock file None = Err (not_found file)
 bound_in_lock file (Some bytes) = if nat_le (length bytes) lock_limit then if_built (read_lock bytes) else Err not_built
 
+-- the packages that are bound, once each was asked for in the repository
 abbrev pub in_repository : Files → List ℕ → Result (List Pkg) Refusal → Result (List Member) Refusal
 in_repository files repo (Err refusal) = Err refusal
 in_repository files repo (Ok pkgs) = members_of (map (answer_of files repo) pkgs)
@@ -84,6 +92,7 @@ abbrev pub members_for : Request → Files → Tree → Result (List Member) Ref
 members_for request files tree =
     if is_fresh tree then in_repository files request.repo (bound_in_lock request.lock_file (get files request.lock_file)) else Err not_built
 
+-- what the request installs, where the words are no refusal
 abbrev pub of_request : Result Request Refusal → Files → Tree → Result (List Member) Refusal
 of_request (Err refusal) files tree = Err refusal
 of_request (Ok request) files tree = members_for request files tree

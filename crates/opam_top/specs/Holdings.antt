@@ -14,7 +14,7 @@ abbrev pub HoldsFrom : ℕ → List Rec → Tree → Type 0
 HoldsFrom k [] tree = get tree (gate_path k) ≡ None
 HoldsFrom k (entry ∷ entries) tree = (get tree (record_path k) ≡ Some (plain (record_bytes entry))) × (get tree (gate_path k) ≡ Some (plain gate_text)) × HoldsFrom (k + 1) entries tree
 
--- the journal has just these records
+-- these records stand from number 1 on, each with an open gate, and the gate after their last is absent
 abbrev pub Holds : List Rec → Tree → Type 0
 Holds entries tree = HoldsFrom 1 entries tree
 

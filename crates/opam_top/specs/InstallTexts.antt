@@ -34,6 +34,7 @@ install_text items = codes "bin: [" ++ spaced items ++ codes "]\n"
 abbrev pub are_items : List (List ℕ) → Bool
 are_items items = nat_le (length items) 65536 && list_all is_item items
 
+-- items are read where the bytes are their canonical spelling
 abbrev pub read_spelled : List ℕ → List (List ℕ) → Option (List (List ℕ))
 read_spelled bytes items = if are_items items && is_spelled bytes (install_text items) then Some items else None
 

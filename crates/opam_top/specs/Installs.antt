@@ -18,6 +18,7 @@ use Rattle.opam_top.specs.Placements.{first_clash, first_room, in_byte_order, is
 use Rattle.opam_top.specs.declared.member.Member.{Member}
 use Rattle.opam_top.specs.declared.records.Placed.{Placed}
 
+-- a command has at least one word
 abbrev pub has_words : List (List ℕ) → Bool
 has_words [] = false
 has_words (word ∷ words) = true
@@ -34,6 +35,7 @@ install_name pkg = pkg.name ++ codes ".install"
 abbrev pub install_limit : ℕ
 install_limit = 1048576
 
+-- the items of an install text, where it is built
 abbrev pub items_read : Option (List (List ℕ)) → Result (List (List ℕ)) Reason
 items_read None = Err InstallNotBuilt
 items_read (Some items) = Ok items
@@ -44,9 +46,11 @@ items_of None = Ok []
 items_of (Some None) = Err InstallUnreadable
 items_of (Some (Some text)) = if nat_le (length text) install_limit then items_read (read_items text) else Err InstallTooLong
 
+-- files in the order of their paths, where the switch has room for their paths
 abbrev pub if_room : ByPath Pkg → List Placed → Result (List Placed) Reason
 if_room owners files = if is_too_full owners files then Err SwitchFull else Ok (in_byte_order files)
 
+-- what comes, where nothing stands in the way
 abbrev pub unless_barred : Option Reason → Result (List Placed) Reason → Result (List Placed) Reason
 unless_barred None later = later
 unless_barred (Some reason) later = Err reason
@@ -56,6 +60,7 @@ abbrev pub if_free : Tree → ByPath Pkg → Pkg → Result (List Placed) Reason
 if_free tree owners pkg (Err reason) = Err reason
 if_free tree owners pkg (Ok files) = unless_barred (first_clash tree owners pkg files) (if_room owners files)
 
+-- the files of the items of an install text, or why there are none
 abbrev pub files_of_items : Told → Tree → ByPath Pkg → Job → Result (List (List ℕ)) Reason → Result (List Placed) Reason
 files_of_items told tree owners job (Err reason) = Err reason
 files_of_items told tree owners job (Ok items) = if_free tree owners job.pkg (placed_from (told.files job) first_room items)

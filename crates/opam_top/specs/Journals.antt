@@ -12,6 +12,7 @@ use Rattle.crash_disk.specs.declared.disk.Look.TheVariants.{Absent, File, Folder
 abbrev pub record_path : ℕ → List ℕ
 record_path k = codes ".opam-switch/journal/rec/" ++ decimal k
 
+-- the gate of record k
 abbrev pub gate_path : ℕ → List ℕ
 gate_path k = codes ".opam-switch/journal/gate/" ++ decimal k
 
@@ -19,6 +20,7 @@ gate_path k = codes ".opam-switch/journal/gate/" ++ decimal k
 abbrev pub stands : Tree → List ℕ → Bool
 stands files path = list_any (λ q. bytes_eq q path || is_above path q) (keys files)
 
+-- nothing stands at or below a path that is seen so
 abbrev pub looks_empty : Look → Bool
 looks_empty Absent = true
 looks_empty File = false

@@ -17,9 +17,11 @@ pkg_of (Removed pkg) = pkg
 pkg_of (Failed pkg reason) = pkg
 pkg_of (Aborted pkg need) = pkg
 
+-- the package of a member
 abbrev pub member_pkg : Member → Pkg
 member_pkg member = member.pkg
 
+-- the package whose job was heard
 abbrev pub heard_pkg : Pkg × Fate → Pkg
 heard_pkg heard = heard.0
 
@@ -29,5 +31,6 @@ pub record IsWhole (o : Outcome) (members : List Member) : Type 0 where
   pub heard : map heard_pkg o.heard ≡ map member_pkg members
   pub records : length o.records ≡ count_by is_installed o.decisions
 
+-- that holds of the outcome over every switch, whatever the workshop tells
 abbrev pub EachIsDecided : Type 0
 EachIsDecided = (told : Told) (switch : Switch) (members : List Member) → IsWhole (outcome told switch members) members

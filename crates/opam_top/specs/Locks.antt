@@ -46,6 +46,7 @@ abbrev pub put_pkg : Pkg → List Pkg → List Pkg
 put_pkg pkg [] = pkg ∷ []
 put_pkg pkg (other ∷ pkgs) = if is_named_before other pkg then other ∷ put_pkg pkg pkgs else pkg ∷ other ∷ pkgs
 
+-- puts each of the packages so, from the last on
 abbrev pub put_pkgs : List Pkg → List Pkg → List Pkg
 put_pkgs [] order = order
 put_pkgs (pkg ∷ pkgs) order = put_pkg pkg (put_pkgs pkgs order)
@@ -63,10 +64,12 @@ place_of_pkg pkg (other ∷ pkgs) = if is_named_before other pkg then place_of_p
 abbrev pub read_pkg : List ℕ → List ℕ → Option Pkg
 read_pkg name version = if is_name name && is_version version then Some (record { name = name; version = version }) else None
 
+-- packages before others, where there are others
 abbrev pub prepended : List Pkg → Option (List Pkg) → Option (List Pkg)
 prepended pkgs None = None
 prepended pkgs (Some more) = Some (pkgs ++ more)
 
+-- a package before others, where there are both
 abbrev pub with_pkg : Option Pkg → Option (List Pkg) → Option (List Pkg)
 with_pkg None more = None
 with_pkg (Some pkg) more = prepended (pkg ∷ []) more

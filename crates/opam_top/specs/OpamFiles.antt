@@ -32,6 +32,7 @@ escaped b =
     else if is_control b then digits_escape b
     else b ∷ []
 
+-- bytes as they stand between quotes
 abbrev pub all_escaped : List ℕ → List ℕ
 all_escaped [] = []
 all_escaped (b ∷ bytes) = escaped b ++ all_escaped bytes
@@ -45,6 +46,7 @@ abbrev pub further_words : List (List ℕ) → List ℕ
 further_words [] = []
 further_words (word ∷ words) = (32 ∷ word_text word) ++ further_words words
 
+-- words between quotes, one space between two of them
 abbrev pub spaced_words : List (List ℕ) → List ℕ
 spaced_words [] = []
 spaced_words (word ∷ words) = word_text word ++ further_words words
@@ -58,6 +60,7 @@ abbrev pub further_commands : List (List (List ℕ)) → List ℕ
 further_commands [] = []
 further_commands (command ∷ commands) = (32 ∷ command_text command) ++ further_commands commands
 
+-- commands, one space between two of them
 abbrev pub spaced_commands : List (List (List ℕ)) → List ℕ
 spaced_commands [] = []
 spaced_commands (command ∷ commands) = command_text command ++ further_commands commands
@@ -82,12 +85,15 @@ are_commands commands = nat_le (length commands) 64 && list_all (list_all is_wor
 abbrev pub fresh_decoder : Decoder
 fresh_decoder = record { state = Outside; word = []; words = []; commands = [] }
 
+-- one more byte of a word
 abbrev pub with_byte : Decoder → ℕ → Decoder
 with_byte d b = record d { state = InWord; word = d.word ++ b ∷ [] }
 
+-- a word has ended
 abbrev pub with_word : Decoder → Decoder
 with_word d = record d { state = InCommand; word = []; words = d.words ++ d.word ∷ [] }
 
+-- a command has ended
 abbrev pub with_command : Decoder → Decoder
 with_command d = record d { state = InList; words = []; commands = d.commands ++ d.words ∷ [] }
 
@@ -101,10 +107,12 @@ named_byte b =
     else if b == 114 then Some 13
     else None
 
+-- after a backslash: the byte that is meant, or the first of three digits
 abbrev pub decode_escape : Decoder → ℕ → Option ℕ → Decoder
 decode_escape d b None = record d { state = AfterDigit (b - 48) }
 decode_escape d b (Some named) = with_byte d named
 
+-- reads a byte in a state
 abbrev pub decode_in : State → Decoder → ℕ → Decoder
 decode_in Outside d b = if b == 91 then record d { state = InList } else d
 decode_in InList d b = if b == 91 then record d { state = InCommand } else if b == 93 then record d { state = Outside } else d

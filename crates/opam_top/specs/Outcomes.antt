@@ -56,7 +56,7 @@ outcome told switch members = fold (with_member told) (undecided switch) members
 
 -- what an outcome leaves on the disk
 pub record Leaves (o : Outcome) (old new : Tree) : Type 0 where
-  -- just its records stand in the journal
+  -- its records stand in the journal, and no gate after their last
   pub journal : Holds o.records new
   -- all else is as the switch has it
   pub others : (q : List ℕ) → IsFalse (is_in_journal q) → get new q ≡ get o.switch.files q

@@ -15,6 +15,7 @@ abbrev pub owned_by : Pkg → List Placed → List (List ℕ × Pkg)
 owned_by pkg [] = []
 owned_by pkg (file ∷ files) = (file.path, pkg) ∷ owned_by pkg files
 
+-- the path is `bin/` and an item
 abbrev pub is_owned_in_bin : List ℕ × Pkg → Bool
 is_owned_in_bin owned = is_bin_path owned.0
 

@@ -22,6 +22,7 @@ use Rattle.opam_top.specs.declared.records.Placed.{Placed}
 abbrev pub bin_path : List ℕ → List ℕ
 bin_path item = codes "bin/" ++ item
 
+-- an executable file below `bin` with these bytes
 abbrev pub placed_at : List ℕ → List ℕ → Placed
 placed_at item bytes = record { path = bin_path item; exec = true; bytes = bytes }
 
@@ -31,10 +32,12 @@ source item room None = Err (Missing item)
 source item room (Some None) = Err (Unreadable item)
 source item room (Some (Some bytes)) = if nat_le (length bytes) room then Ok (placed_at item bytes) else Err FilesTooLong
 
+-- files before those that follow, where these can be had
 abbrev pub prepend : List Placed → Result (List Placed) Reason → Result (List Placed) Reason
 prepend files (Err reason) = Err reason
 prepend files (Ok more) = Ok (files ++ more)
 
+-- a file, and what its bytes leave room for
 abbrev pub with_source : Result Placed Reason → ℕ → (ℕ → Result (List Placed) Reason) → Result (List Placed) Reason
 with_source (Err reason) room later = Err reason
 with_source (Ok file) room later = prepend (file ∷ []) (later (room - length file.bytes))
@@ -45,6 +48,7 @@ abbrev pub placed_from : ByPath (Option (List ℕ)) → ℕ → List (List ℕ) 
 placed_from files room [] = Ok []
 placed_from files room (item ∷ items) = with_source (source item room (get files item)) room (λ left. placed_from files left items)
 
+-- their paths
 abbrev pub paths_of : List Placed → List (List ℕ)
 paths_of [] = []
 paths_of (file ∷ files) = file.path ∷ paths_of files
@@ -66,6 +70,7 @@ meets p q = bytes_eq p q || is_above p q || is_above q p
 abbrev pub meets_foreign : Tree → ByPath Pkg → List ℕ → Bool
 meets_foreign tree owners path = list_any (λ q. meets path q && is_none (get owners q)) (keys tree)
 
+-- a path that is owned is barred by its owner, and else by a file that nobody owns
 abbrev pub way_barred : List ℕ → Option Pkg → Bool → Option Reason
 way_barred path (Some owner) foreign = Some (Owned path owner)
 way_barred path None true = Some (Foreign path)
@@ -75,6 +80,7 @@ way_barred path None false = None
 abbrev pub in_the_way : Tree → ByPath Pkg → List ℕ → Option Reason
 in_the_way tree owners path = way_barred path (get owners path) (meets_foreign tree owners path)
 
+-- the first reason, where there are two
 abbrev pub first_of : Option Reason → Option Reason → Option Reason
 first_of None later = later
 first_of (Some reason) later = Some reason
@@ -96,6 +102,7 @@ is_too_full owners files = not (nat_le (len owners + length files) most_paths)
 abbrev pub has_no_file : Tree → List ℕ → Bool
 has_no_file tree path = not (is_some (get tree path))
 
+-- no file stands at a path that is seen so
 abbrev pub looks_fileless : Look → Bool
 looks_fileless Absent = true
 looks_fileless File = false
@@ -105,6 +112,7 @@ looks_fileless Folder = true
 abbrev pub is_bin_path : List ℕ → Bool
 is_bin_path path = bytes_eq (take 4 path) (codes "bin/") && is_item (drop 4 path)
 
+-- the file stands below `bin`, under an item
 abbrev pub is_in_bin : Placed → Bool
 is_in_bin file = is_bin_path file.path
 
@@ -117,6 +125,7 @@ abbrev pub put_in : Placed → List Placed → List Placed
 put_in file [] = file ∷ []
 put_in file (other ∷ files) = if is_before other.path file.path then other ∷ put_in file files else file ∷ other ∷ files
 
+-- puts each of the files so, from the last on
 abbrev pub put_all : List Placed → List Placed → List Placed
 put_all [] order = order
 put_all (file ∷ files) order = put_in file (put_all files order)

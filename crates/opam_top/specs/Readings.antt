@@ -29,6 +29,7 @@ InstallTextsAreRead = (bytes : List ℕ) (items : List (List ℕ)) → (read_ite
 abbrev pub is_pkg : Pkg → Bool
 is_pkg pkg = is_name pkg.name && is_version pkg.version
 
+-- the names of packages, in their order
 abbrev pub names_of : List Pkg → List (List ℕ)
 names_of [] = []
 names_of (pkg ∷ pkgs) = pkg.name ∷ names_of pkgs

@@ -14,6 +14,7 @@ use Rattle.opam_top.specs.declared.stops.Refusal.{Refusal}
 use Rattle.opam_top.specs.declared.stops.Stop.{Stop}
 use Rattle.opam_top.specs.declared.stops.Stop.TheVariants.{Host, Disk, Memory, Refused}
 
+-- the status of each cause of a refusal
 abbrev pub status_of : Cause → Status
 status_of Words = status.Words
 status_of NotFound = status.NotFound
@@ -31,6 +32,7 @@ not_built = record { cause = NotBuilt; err = codes "not built yet\n" }
 abbrev pub not_found : List ℕ → Refusal
 not_found path = record { cause = NotFound; err = path ++ codes ": not found\n" }
 
+-- what is said of a package that the repository lacks
 abbrev pub unknown_line : Pkg → List ℕ
 unknown_line pkg = pkg_text pkg ++ codes ": not in the repository\n"
 

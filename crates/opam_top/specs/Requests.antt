@@ -15,15 +15,18 @@ abbrev pub built_names : List ℕ → List ℕ → ℕ → List (List ℕ) → R
 built_names lock_file repo jobs [] = Ok (record { lock_file = lock_file; repo = repo; jobs = jobs })
 built_names lock_file repo jobs (name ∷ names) = Err not_built
 
+-- what a change asks for: only installs are built
 abbrev pub built_change : AChange → Result Request Refusal
 built_change (Install lock_file repo jobs names) = built_names lock_file repo jobs names
 built_change (Remove jobs names) = Err not_built
 built_change (Reinstall jobs names) = Err not_built
 
+-- what a command asks for: only changes are built
 abbrev pub built_command : Command → Result Request Refusal
 built_command (Change change) = built_change change
 built_command (Query query) = Err not_built
 
+-- what words ask for that were read so
 abbrev pub request_by : Result Command WordFault → Result Request Refusal
 request_by (Ok command) = built_command command
 request_by (Err fault) = Err (bad_words fault)

@@ -11,6 +11,7 @@ is_spelled bytes text = bytes_eq bytes text || bytes_eq (bytes ++ 10 ∷ []) tex
 abbrev pub in_quotes : List ℕ → List ℕ
 in_quotes text = 34 ∷ text ++ 34 ∷ []
 
+-- the byte at the front of the first text
 abbrev pub onto_first : ℕ → List (List ℕ) → List (List ℕ)
 onto_first b [] = (b ∷ []) ∷ []
 onto_first b (text ∷ texts) = (b ∷ text) ∷ texts
@@ -22,6 +23,7 @@ quoted_from false [] = []
 quoted_from true (b ∷ bytes) = if b == 34 then [] ∷ quoted_from false bytes else onto_first b (quoted_from true bytes)
 quoted_from false (b ∷ bytes) = if b == 34 then quoted_from true bytes else quoted_from false bytes
 
+-- the texts between quotes, from the beginning on
 abbrev pub quoted : List ℕ → List (List ℕ)
 quoted bytes = quoted_from false bytes
 

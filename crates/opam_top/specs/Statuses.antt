@@ -3,6 +3,7 @@ use Rattle.std.specs.Prelude.{ℕ}
 use Rattle.opam_top.specs.declared.status.Status.{Status}
 use Rattle.opam_top.specs.declared.status.Status.TheVariants.{Done, Findings, Words, NotFound, Locked, NoSolution, BadFile, Actions, HostFailed, DiskFailed, OutFailed, Damaged, NotBuilt, Memory}
 
+-- each status has its own number
 abbrev pub number_of : Status → ℕ
 number_of Done = 0
 number_of Findings = 1

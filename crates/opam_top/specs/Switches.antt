@@ -17,6 +17,7 @@ pub record Switch : Type 0 where
 abbrev pub empty_switch : Tree → Switch
 empty_switch files = record { entries = []; owners = empty; files = files }
 
+-- the paths of the files are the package's
 abbrev pub with_owner : ByPath Pkg → Pkg → List Placed → ByPath Pkg
 with_owner owners pkg [] = owners
 with_owner owners pkg (file ∷ files) = with_owner (insert owners file.path pkg) pkg files

@@ -93,8 +93,8 @@ pub fn opam_run<
         Quiet (H.faults host.old) (H.faults host.new) → Quiet (D.faults disk.old) (D.faults disk.new) →
         result.status ≢ Status.Memory → (new : State) × (D.told disk.new ≡ Some new) × LeftBy (run (map string_bytes words.now) outside) outside.disk.files new.files }
 
-    // Where the disk failed in the middle, the first of its decisions are reported and no summary, each job that was decided
-    // is heard, and the receipts are those of what was committed.
+    // Where the disk failed in the middle, the first of its decisions are reported and no summary, the jobs of these at least
+    // are heard, and the receipts are those of what was committed.
     ensures halted { (outside : Outside) → IsOutside outside (H.files host.old) (D.told disk.old) (W.told (arc_value shop.now)) →
         result.status ≡ Status.DiskFailed → IsHalted (run (map string_bytes words.now) outside).change result (O.faults out.old) (O.faults out.new) (O.written out.old) (O.written out.new) }
 
@@ -103,8 +103,8 @@ pub fn opam_run<
     ensures kept { (s : State) → D.told disk.old ≡ Some s → (new : State) × (D.told disk.new ≡ Some new) × KeepsOthers s.files new.files }
     ensures counted { AreReceipts (D.moment disk.old) (D.moment disk.new) result.receipts }
 
-    // Each receipt is of a moment at which its action was durable and the next one had not begun, as long as the clock has
-    // not come to its end.
+    // Each receipt is of a moment at which its record and those before it were durable and the next gate was absent, as long
+    // as the clock has not come to its end.
     ensures dated { (outside : Outside) → IsOutside outside (H.files host.old) (D.told disk.old) (W.told (arc_value shop.now)) → D.moment disk.new < last_count →
         AreDated (D.past disk.new) (run (map string_bytes words.now) outside).change.records result.receipts }
 
