@@ -21,6 +21,7 @@ pub record Kept : Type 0 where
   pub bytes : List ℕ
   pub exec : Bool
 
+-- the files of a disk, by their paths
 abbrev pub Tree : Type 0
 Tree = ByPath Kept
 
@@ -29,6 +30,7 @@ pub record State : Type 0 where
   pub files : Tree
   pub loose : List (List ℕ)
 
+-- a stop may leave something else at the path
 abbrev pub is_loose : State → List ℕ → Bool
 is_loose s q = list_any (bytes_eq q) s.loose
 
@@ -90,6 +92,7 @@ abbrev pub synced : {T : Type 0} → State → Result T Failed → State
 synced old (Ok _) = record { files = old.files; loose = [] }
 synced old (Err _) = old
 
+-- the same of what a disk tells
 pub record TellsSync {T : Type 0} (before after : Option State) (result : Result T Failed) : Type 0 where
   pub untold : before ≡ None → after ≡ None
   pub told : (old : State) → before ≡ Some old → after ≡ Some (synced old result)
@@ -100,6 +103,7 @@ IsLook files path look.File = IsSome (get files path)
 IsLook files path look.Folder = (get files path ≡ None) × (q : List ℕ) × IsTrue (is_above path q) × IsSome (get files q)
 IsLook files path look.Absent = (get files path ≡ None) × ((q : List ℕ) → IsTrue (is_above path q) → get files q ≡ None)
 
+-- a disk that tells answers what stands there
 abbrev pub Looks : Option State → List ℕ → Result Look Failed → Type 0
 Looks told path result = (s : State) → told ≡ Some s → IfOk result (λ seen. IsLook s.files path seen)
 
@@ -110,5 +114,6 @@ IsRead (Some file) limit found.Absent = ⊥
 IsRead (Some file) limit (found.File bytes exec) = (bytes ≡ file.bytes) × (exec ≡ file.exec) × (length bytes ≤ limit)
 IsRead (Some file) limit found.TooLong = limit < length file.bytes
 
+-- a disk that tells answers the file there
 abbrev pub Reads : Option State → List ℕ → ℕ → Result DiskRead DiskFault → Type 0
 Reads told path limit result = (s : State) → told ≡ Some s → IfOk result (λ seen. IsRead (get s.files path) limit seen)

@@ -13,9 +13,11 @@ use Rattle.crash_disk.specs.declared.changes.Entry.{Entry}
 abbrev pub Listed : Type 0
 Listed = List ℕ × Vec ℕ × Bool
 
+-- the file that is listed
 abbrev pub kept : Listed → Kept
 kept f = record { bytes = f.1.items; exec = f.2 }
 
+-- listed files with their paths
 abbrev pub entries_of : List Listed → List (List ℕ × Kept)
 entries_of [] = []
 entries_of (f ∷ fs) = (f.0, kept f) ∷ entries_of fs
@@ -24,6 +26,7 @@ entries_of (f ∷ fs) = (f.0, kept f) ∷ entries_of fs
 abbrev pub tree_of : List Listed → Tree
 tree_of fs = from_entries (entries_of fs)
 
+-- the state before any change
 abbrev pub first_state : List Listed → State
 first_state fs = record { files = tree_of fs; loose = [] }
 
@@ -35,6 +38,7 @@ placed path file s = record { files = with_file s.files path file; loose = path 
 abbrev pub loosened : List ℕ → State → State
 loosened path s = record { files = s.files; loose = path ∷ s.loose }
 
+-- what a change leaves
 abbrev pub after : Change → State → State
 after (Put f) s = placed f.0 (Some (kept f)) s
 after (Removed path) s = placed path None s
@@ -67,10 +71,12 @@ stored_by (Removed path) q here = if bytes_eq q path then None else here
 stored_by (Loosened path) q here = here
 stored_by Synced q here = here
 
+-- what stands at a path after changes
 abbrev pub stored_after : List Entry → List ℕ → Option Listed → Option Listed
 stored_after [] q here = here
 stored_after (e ∷ es) q here = stored_after es q (stored_by e.change q here)
 
+-- what stood at a path before any
 abbrev pub stored_first : List Listed → List ℕ → Option Listed
 stored_first [] q = None
 stored_first (f ∷ fs) q = if bytes_eq q f.0 then Some f else stored_first fs q

@@ -19,6 +19,7 @@ pub record Shown : Type 0 where
   pub held : ℕ
   pub taken : Bool
 
+-- what is shown of a disk
 abbrev pub shown : MemoryDisk → Shown
 shown d = record {
   state = replay d.log (first_state d.first.items);
@@ -39,9 +40,11 @@ fails_next s = list_any (λ n. n == min (s.calls + 1) last_count) s.fail
 abbrev pub told_now : Shown → Option State
 told_now s = Some s.state
 
+-- what it tells of a moment
 abbrev pub told_at : Shown → ℕ → Option State
 told_at s t = Some (s.past t)
 
+-- what it tells of a claim
 abbrev pub told_taken : Shown → Option Bool
 told_taken s = Some s.taken
 

@@ -16,6 +16,7 @@ use Rattle.opam_filter.specs.declared.filter.Filter.TheFolds.{fold-Filter}
 abbrev pub scope_names : List ℕ → List (List ℕ)
 scope_names scope = filter is_name (if is_joined scope then scope_parts scope else scope ∷ [])
 
+-- the names in a scope, where there is one
 abbrev pub names_of_scope : Option (List ℕ) → List (List ℕ)
 names_of_scope None = []
 names_of_scope (Some scope) = scope_names scope
@@ -35,11 +36,14 @@ layer_names (Filter-F.Defined part) = part
 layer_names (Filter-F.And parts) = flat_map (λ names. names) parts
 layer_names (Filter-F.Or parts) = flat_map (λ names. names) parts
 
+-- of the variables in a filter, as often as they stand there
 abbrev pub names_in : Filter → List (List ℕ)
 names_in = fold-Filter (List (List ℕ)) layer_names
 
+-- the same of a filter in the order of bytes, each once
 abbrev pub asked : Filter → List (List ℕ)
 asked filter = in_byte_order (names_in filter)
 
+-- the same of a text
 abbrev pub asked_in : List ℕ → List (List ℕ)
 asked_in text = in_byte_order (names_in_text text)

@@ -14,6 +14,7 @@ use Rattle.opam_syntax.specs.declared.tree.Value.TheFolds.{fold-Node}
 use Rattle.opam_filter.specs.declared.fault.FilterFault.{FilterFault}
 use Rattle.opam_filter.specs.declared.fault.FilterFault.TheVariants.{NotAFilter, NotAFormula, NotText, BadName, NegatedVersion, Memory}
 
+-- where a fault stands
 abbrev pub place_of : FilterFault → ℕ
 place_of (NotAFilter span) = span.start
 place_of (NotAFormula span) = span.start
@@ -31,6 +32,7 @@ rank_of (BadName span) = 3
 rank_of (NegatedVersion span) = 4
 rank_of Memory = 5
 
+-- the one further left comes first, and at one place the one of the lesser kind
 abbrev pub comes_before : FilterFault → FilterFault → Bool
 comes_before one other = nat_lt (place_of one) (place_of other) || (place_of one == place_of other && nat_lt (rank_of one) (rank_of other))
 
@@ -40,6 +42,7 @@ earlier None other = other
 earlier (Some one) None = Some one
 earlier (Some one) (Some other) = if comes_before other one then Some other else Some one
 
+-- the first of several
 abbrev pub earliest : List (Option FilterFault) → Option FilterFault
 earliest [] = None
 earliest (first ∷ more) = earlier first (earliest more)
@@ -74,9 +77,11 @@ IsFaultOf first Memory = Unit {0}
 abbrev pub is_text : List ℕ → Bool
 is_text bytes = is_utf8 bytes && list_all is_not_zero bytes
 
+-- the fault of a text
 abbrev pub text_fault : List ℕ → Span → Option FilterFault
 text_fault bytes span = if is_text bytes then None else Some (NotText span)
 
+-- the fault of a text that has to be a name
 abbrev pub name_fault : List ℕ → Span → Option FilterFault
 name_fault bytes span = if is_name bytes then None else Some (BadName span)
 
@@ -88,15 +93,19 @@ no_filter parts span = earlier parts (Some (NotAFilter span))
 abbrev pub of_filters : List Judged → Option FilterFault
 of_filters nodes = earliest (map (λ node. node.filter) nodes)
 
+-- the same as values in braces
 abbrev pub of_braces : List Judged → Option FilterFault
 of_braces nodes = earliest (map (λ node. node.braces) nodes)
 
+-- the same as formulas
 abbrev pub of_formulas : List Judged → Option FilterFault
 of_formulas nodes = earliest (map (λ node. node.formula) nodes)
 
+-- a value whose parts are judged
 abbrev pub Shape : Type 0
 Shape = Value-F (Span → Judged) Judged
 
+-- a group of one is what is in it
 abbrev pub filter_group : List Judged → Span → Option FilterFault
 filter_group (node ∷ []) span = node.filter
 filter_group nodes span = no_filter (of_filters nodes) span
@@ -139,6 +148,7 @@ side_role (Value-F.Env op left right) span = no_filter (earlier left.filter righ
 abbrev pub negation : Judged → Span → Option FilterFault
 negation node span = earlier (if node.constrains then Some (NegatedVersion span) else None) node.filter
 
+-- the same in braces
 abbrev pub braces_group : List Judged → Span → Option FilterFault
 braces_group (node ∷ []) span = node.braces
 braces_group nodes span = no_filter (of_filters nodes) span
@@ -175,9 +185,11 @@ formula_role (Value-F.And nodes) span = of_formulas nodes
 formula_role (Value-F.Or nodes) span = of_formulas nodes
 formula_role shape span = Some (NotAFormula span)
 
+-- some of the nodes has a constraint on the version
 abbrev pub some_constrains : List Judged → Bool
 some_constrains nodes = list_any (λ node. node.constrains) nodes
 
+-- a node has a constraint on the version in it
 abbrev pub constrains_role : Shape → Bool
 constrains_role (Value-F.Flag flag) = false
 constrains_role (Value-F.Int number) = false
@@ -194,6 +206,7 @@ constrains_role (Value-F.And nodes) = some_constrains nodes
 constrains_role (Value-F.Or nodes) = some_constrains nodes
 constrains_role (Value-F.Env op left right) = left.constrains || right.constrains
 
+-- a value, for each place in which it may stand
 abbrev pub shape_judged : Shape → Span → Judged
 shape_judged shape span = record {
   filter = filter_role shape span;
@@ -205,8 +218,10 @@ shape_judged shape span = record {
   constrains = constrains_role shape;
 }
 
+-- the same at the span of its node
 abbrev pub node_judged : Node-F (Span → Judged) Judged → Judged
 node_judged node = node.value node.span
 
+-- the faults of a node
 abbrev pub judged : Node → Judged
 judged = fold-Node (Span → Judged) Judged shape_judged node_judged

@@ -41,6 +41,7 @@ pub record AreParts (text : List ℕ) (parts : Parts) : Type 0 where
   pub each : IsTrue (list_all is_first parts.holes)
   pub rest : option_and_then (λ opening. closed opening.after) (opened parts.rest) ≡ None
 
+-- that holds of the parts of every text
 abbrev pub TextsAreCut : Type 0
 TextsAreCut = (text : List ℕ) → AreParts text (parts_of text)
 
@@ -64,12 +65,14 @@ joined_answers join [] [] = Some (join [])
 joined_answers join (part ∷ parts) [] = None
 joined_answers join parts (first ∷ more) = Some (join (first ∷ more))
 
+-- from the answers of its parts
 abbrev pub layer_answer : Values → List Pkg → Formula-F (Option Bool) → Option Bool
 layer_answer values set (Formula-F.Atom name braces) =
     if is_kept (test_of values braces) then Some (list_any (is_met_by name (test_of values braces)) set) else None
 layer_answer values set (Formula-F.And parts) = joined_answers (list_all (λ part. part)) parts (filter_map (λ part. part) parts)
 layer_answer values set (Formula-F.Or parts) = joined_answers (list_any (λ part. part)) parts (filter_map (λ part. part) parts)
 
+-- whether a set meets the formula, or none where it is left out
 abbrev pub answer : Values → List Pkg → Formula → Option Bool
 answer values set = fold-Formula (Option Bool) (layer_answer values set)
 
@@ -84,15 +87,18 @@ layer_constrained (Test-F.Version op right) = true
 layer_constrained (Test-F.And parts) = list_any (λ part. part) parts
 layer_constrained (Test-F.Or parts) = list_any (λ part. part) parts
 
+-- the same of a whole test
 abbrev pub is_constrained : Test → Bool
 is_constrained = fold-Test Bool layer_constrained
 
+-- whether some atom is so constrained
 abbrev pub layer_versioned : Reduced-F Bool → Bool
 layer_versioned Reduced-F.Dropped = false
 layer_versioned (Reduced-F.And parts) = list_any (λ part. part) parts
 layer_versioned (Reduced-F.Or parts) = list_any (λ part. part) parts
 layer_versioned (Reduced-F.Atom name test) = is_constrained test
 
+-- the same of a whole formula
 abbrev pub is_versioned : Reduced → Bool
 is_versioned = fold-Reduced Bool layer_versioned
 
@@ -114,6 +120,7 @@ layer_wholly values (Formula-F.And parts) = list_all (λ part. part) parts
 layer_wholly values (Formula-F.Or []) = false
 layer_wholly values (Formula-F.Or (part ∷ parts)) = part && list_all (λ part. part) parts
 
+-- the same of a whole formula
 abbrev pub is_wholly_dropped : Values → Formula → Bool
 is_wholly_dropped values = fold-Formula Bool (layer_wholly values)
 

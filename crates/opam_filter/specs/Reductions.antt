@@ -30,6 +30,7 @@ layer_test values (Braces-F.Version op right) = roll-Test (Test-F.Version op (op
 layer_test values (Braces-F.And parts) = roll-Test (Test-F.And parts)
 layer_test values (Braces-F.Or parts) = roll-Test (Test-F.Or parts)
 
+-- braces as a test
 abbrev pub test_of : Values → Braces → Test
 test_of values = fold-Braces Test (layer_test values)
 
@@ -40,6 +41,7 @@ layer_truth constraint (Test-F.Version op right) = constraint op right
 layer_truth constraint (Test-F.And parts) = all_of parts
 layer_truth constraint (Test-F.Or parts) = any_of parts
 
+-- the truth of a whole test
 abbrev pub test_truth : (RelOp → Option (List ℕ) → Truth) → Test → Truth
 test_truth constraint = fold-Test Truth (layer_truth constraint)
 
@@ -60,9 +62,11 @@ is_kept test = is_yes (test_truth any_version test)
 abbrev pub is_met : Test → List ℕ → Bool
 is_met test version = is_yes (test_truth (at_version version) test)
 
+-- a formula of which nothing is left
 abbrev pub dropped : Reduced
 dropped = roll-Reduced Reduced-F.Dropped
 
+-- whether it is not dropped
 abbrev pub layer_left : Reduced-F Bool → Bool
 layer_left Reduced-F.Dropped = false
 layer_left (Reduced-F.And parts) = true
@@ -79,12 +83,14 @@ joined join [] [] = join []
 joined join (part ∷ parts) [] = dropped
 joined join parts (first ∷ more) = join (first ∷ more)
 
+-- what is left of a formula, from what is left of its parts
 abbrev pub layer_reduced : Values → Formula-F Reduced → Reduced
 layer_reduced values (Formula-F.Atom name braces) =
     if is_kept (test_of values braces) then roll-Reduced (Reduced-F.Atom name (test_of values braces)) else dropped
 layer_reduced values (Formula-F.And parts) = joined (λ left. roll-Reduced (Reduced-F.And left)) parts (filter is_left parts)
 layer_reduced values (Formula-F.Or parts) = joined (λ left. roll-Reduced (Reduced-F.Or left)) parts (filter is_left parts)
 
+-- what is left of a formula
 abbrev pub reduced : Values → Formula → Reduced
 reduced values = fold-Formula Reduced (layer_reduced values)
 

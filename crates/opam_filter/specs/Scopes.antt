@@ -14,9 +14,11 @@ use Rattle.opam_filter.specs.declared.truth.Truth.TheVariants.{Yes, No, Undefine
 use Rattle.opam_filter.specs.declared.truth.VarValue.{VarValue}
 use Rattle.opam_filter.specs.declared.truth.VarValue.TheVariants.{Text}
 
+-- a variable without a scope
 abbrev pub plain : List ℕ → Var
 plain name = record { scope = None; name = name }
 
+-- a variable with a scope
 abbrev pub scoped : List ℕ → List ℕ → Var
 scoped scope name = record { scope = Some scope; name = name }
 
@@ -32,6 +34,7 @@ is_joined scope = nat_le 2 (length (scope_parts scope)) && list_all is_package_p
 abbrev pub all_in : Values → List ℕ → List (List ℕ) → Truth
 all_in values name parts = all_of (map (λ part. truth_of (get values (scoped part name))) parts)
 
+-- the words for it
 abbrev pub enable_value : Truth → Option VarValue
 enable_value Yes = Some (Text (codes "enable"))
 enable_value No = Some (Text (codes "disable"))
@@ -43,6 +46,7 @@ joined_value values parts name =
     if bytes_eq name (codes "enable") then enable_value (all_in values (codes "installed") parts)
     else value_of (all_in values name parts)
 
+-- the value of a variable by its scope
 abbrev pub scoped_value : Values → Option (List ℕ) → List ℕ → Option VarValue
 scoped_value values None name = get values (plain name)
 scoped_value values (Some scope) name =

@@ -28,6 +28,7 @@ layer_holds set (Reduced-F.And parts) = list_all (λ part. part) parts
 layer_holds set (Reduced-F.Or parts) = list_any (λ part. part) parts
 layer_holds set (Reduced-F.Atom name test) = list_any (is_met_by name test) set
 
+-- a set meets what is left of a formula
 abbrev pub holds : Reduced → List Pkg → Bool
 holds reduced set = fold-Reduced Bool (layer_holds set) reduced
 
@@ -38,6 +39,7 @@ layer_meets pkg (Reduced-F.And parts) = false
 layer_meets pkg (Reduced-F.Or parts) = false
 layer_meets pkg (Reduced-F.Atom name test) = is_met_by name test pkg
 
+-- a package does, where that is one atom
 abbrev pub meets : Reduced → Pkg → Bool
 meets reduced pkg = layer_meets pkg (out-Reduced reduced)
 
@@ -48,9 +50,11 @@ layer_kept (Reduced-F.And parts) = flat_map (λ names. names) parts
 layer_kept (Reduced-F.Or parts) = flat_map (λ names. names) parts
 layer_kept (Reduced-F.Atom name test) = name ∷ []
 
+-- the names of all kept atoms
 abbrev pub kept_names : Reduced → List (List ℕ)
 kept_names = fold-Reduced (List (List ℕ)) layer_kept
 
+-- the same in the order of bytes, each once
 abbrev pub names : Reduced → List (List ℕ)
 names reduced = in_byte_order (kept_names reduced)
 
@@ -60,6 +64,7 @@ layer_atoms (Formula-F.Atom name braces) = roll-Formula (Formula-F.Atom name bra
 layer_atoms (Formula-F.And parts) = flat_map (λ atoms. atoms) parts
 layer_atoms (Formula-F.Or parts) = flat_map (λ atoms. atoms) parts
 
+-- the atoms of a formula
 abbrev pub atoms : Formula → List Formula
 atoms = fold-Formula (List Formula) layer_atoms
 
@@ -67,6 +72,7 @@ atoms = fold-Formula (List Formula) layer_atoms
 abbrev pub Rises : List Pkg → Type 0
 Rises set = IsStrictlySortedBy (slice_cmp nat_cmp) (map (λ pkg. pkg.name) set)
 
+-- the first comes before the second
 abbrev pub is_less : Ordering → Bool
 is_less Less = true
 is_less Equal = false

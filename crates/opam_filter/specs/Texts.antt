@@ -15,9 +15,11 @@ pub record Cut : Type 0 where
   pub before : List ℕ
   pub after : List ℕ
 
+-- a byte before the cut
 abbrev pub behind : ℕ → Cut → Cut
 behind b cut = record { before = b ∷ cut.before; after = cut.after }
 
+-- where the two bytes first stand beside each other
 abbrev pub cut_at : ℕ → ℕ → List ℕ → Option Cut
 cut_at first second [] = None
 cut_at first second (a ∷ []) = None
@@ -47,6 +49,7 @@ pub record Parts : Type 0 where
 abbrev pub without_holes : List ℕ → Parts
 without_holes text = record { holes = []; rest = text }
 
+-- an interpolation before other parts
 abbrev pub with_hole : List ℕ → List ℕ → Parts → Parts
 with_hole before inside parts = record { holes = record { before = before; inside = inside } ∷ parts.holes; rest = parts.rest }
 
@@ -55,6 +58,7 @@ abbrev pub parts_after : (List ℕ → Parts) → List ℕ → Cut → Option Cu
 parts_after others text opening None = without_holes text
 parts_after others text opening (Some closing) = with_hole opening.before closing.before (others closing.after)
 
+-- the same where a `%{` may stand
 abbrev pub parts_from : (List ℕ → Parts) → List ℕ → Option Cut → Parts
 parts_from others text None = without_holes text
 parts_from others text (Some opening) = parts_after others text opening (closed opening.after)
@@ -68,9 +72,11 @@ parts_up_to (suc count) text = parts_from (parts_up_to count) text (opened text)
 abbrev pub parts_of : List ℕ → Parts
 parts_of text = parts_up_to (length text) text
 
+-- the byte `?`
 abbrev pub is_question : ℕ → Bool
 is_question b = b == 63
 
+-- the byte `:`
 abbrev pub is_colon : ℕ → Bool
 is_colon b = b == 58
 

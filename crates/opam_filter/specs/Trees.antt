@@ -22,9 +22,11 @@ pub record Read : Type 0 where
 abbrev pub none : Filter
 none = roll-Filter (Filter-F.Or [])
 
+-- a value whose parts are read
 abbrev pub Shape : Type 0
 Shape = Value-F Read Read
 
+-- a value as a filter
 abbrev pub as_filter : Shape → Filter
 as_filter (Value-F.Flag flag) = roll-Filter (Filter-F.Flag flag)
 as_filter (Value-F.Text bytes) = roll-Filter (Filter-F.Text bytes)
@@ -41,6 +43,7 @@ as_filter shape = none
 abbrev pub all_braces : List Read → Braces
 all_braces nodes = roll-Braces (Braces-F.And (map (λ node. node.braces) nodes))
 
+-- a value in braces
 abbrev pub as_braces : Shape → Braces
 as_braces (Value-F.PreRel op right) = roll-Braces (Braces-F.Version op right.filter)
 as_braces (Value-F.And nodes) = all_braces nodes
@@ -48,9 +51,11 @@ as_braces (Value-F.Or nodes) = roll-Braces (Braces-F.Or (map (λ node. node.brac
 as_braces (Value-F.Group (node ∷ [])) = node.braces
 as_braces shape = roll-Braces (Braces-F.Filter (as_filter shape))
 
+-- formulas join by `&`
 abbrev pub all_formulas : List Read → Formula
 all_formulas nodes = roll-Formula (Formula-F.And (map (λ node. node.formula) nodes))
 
+-- a group of one is what is in it
 abbrev pub formula_group : List Read → Formula
 formula_group (node ∷ []) = node.formula
 formula_group nodes = all_formulas nodes
@@ -65,15 +70,19 @@ as_formula (Value-F.And nodes) = all_formulas nodes
 as_formula (Value-F.Or nodes) = roll-Formula (Formula-F.Or (map (λ node. node.formula) nodes))
 as_formula shape = all_formulas []
 
+-- a text as a name
 abbrev pub as_name : Shape → List ℕ
 as_name (Value-F.Text bytes) = bytes
 as_name shape = []
 
+-- a value, for each place in which it may stand
 abbrev pub shape_read : Shape → Read
 shape_read shape = record { filter = as_filter shape; braces = as_braces shape; formula = as_formula shape; name = as_name shape }
 
+-- a span adds nothing
 abbrev pub node_read : Node-F Read Read → Read
 node_read node = node.value
 
+-- what a node is read as
 abbrev pub read : Node → Read
 read = fold-Node Read Read shape_read node_read

@@ -44,11 +44,13 @@ abbrev pub any_of : List Truth → Truth
 any_of [] = No
 any_of (first ∷ more) = either first (any_of more)
 
+-- a truth is Yes
 abbrev pub is_yes : Truth → Bool
 is_yes Yes = true
 is_yes No = false
 is_yes Undefined = false
 
+-- a boolean as a truth
 abbrev pub truth_of_flag : Bool → Truth
 truth_of_flag true = Yes
 truth_of_flag false = No
@@ -75,6 +77,7 @@ abbrev pub word_of_flag : Bool → List ℕ
 word_of_flag true = codes "true"
 word_of_flag false = codes "false"
 
+-- a value as a word
 abbrev pub word_of : VarValue → List ℕ
 word_of (Flag flag) = word_of_flag flag
 word_of (Text text) = text

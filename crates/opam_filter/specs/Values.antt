@@ -25,6 +25,7 @@ layer_value values (Filter-F.Defined part) = Some (Flag (is_some part))
 layer_value values (Filter-F.And parts) = value_of (all_of (map truth_of parts))
 layer_value values (Filter-F.Or parts) = value_of (any_of (map truth_of parts))
 
+-- the value of a filter
 abbrev pub filter_value : Values → Filter → Option VarValue
 filter_value values = fold-Filter (Option VarValue) (layer_value values)
 

@@ -16,16 +16,20 @@ use Rattle.opam_filter.specs.declared.truth.VarValue.TheVariants.{Flag, Text}
 abbrev pub var_cmp : Var → Var → Ordering
 var_cmp a b = ordering_then (option_cmp (slice_cmp nat_cmp) a.scope b.scope) (slice_cmp nat_cmp a.name b.name)
 
+-- variables with their values
 abbrev pub Values : Type 0
 Values = FinMap var_cmp VarValue
 
+-- a variable can be counted, as a part of plain data
 abbrev pub coded_var : Coded Var
 coded_var = code_by (Option (List ℕ) × List ℕ) (coded× (coded_option (coded_list coded_ℕ)) (coded_list coded_ℕ)) (λ v. (v.scope, v.name)) (λ p. record { scope = p.0; name = p.1 }) (λ _. refl)
 
+-- a value is a boolean or a text
 abbrev pub sides : VarValue → Bool ⊎ List ℕ
 sides (Flag flag) = inl flag
 sides (Text text) = inr text
 
+-- and a boolean or a text is a value
 abbrev pub joined_sides : Bool ⊎ List ℕ → VarValue
 joined_sides (inl flag) = Flag flag
 joined_sides (inr text) = Text text
@@ -34,5 +38,6 @@ pub joined_again : (value : VarValue) → joined_sides (sides value) ≡ value
 joined_again (Flag flag) = refl
 joined_again (Text text) = refl
 
+-- a value can be counted, as a part of plain data
 abbrev pub coded_value : Coded VarValue
 coded_value = code_by (Bool ⊎ List ℕ) (coded⊎ coded_bool (coded_list coded_ℕ)) sides joined_sides joined_again

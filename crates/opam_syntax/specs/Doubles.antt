@@ -13,15 +13,18 @@ pub data Name : Type 0 where
   ItemName : Key → Name
   FieldName : ℕ → List ℕ → Name
 
+-- labels are equal, or neither is there
 abbrev pub label_eq : Option (List ℕ) → Option (List ℕ) → Bool
 label_eq None None = true
 label_eq (Some one) (Some other) = bytes_eq one other
 label_eq one other = false
 
+-- name, kind and label are equal
 abbrev pub key_eq : Key → Key → Bool
 key_eq one other =
     bytes_eq one.name other.name && (if one.section then other.section else not other.section) && label_eq one.label other.label
 
+-- both are keys of items, or names in one section, and are equal
 abbrev pub name_eq : Name → Name → Bool
 name_eq (ItemName one) (ItemName other) = key_eq one other
 name_eq (FieldName section one) (FieldName other_section other) = section == other_section && bytes_eq one other
@@ -33,6 +36,7 @@ field_names section [] places = []
 field_names section (field ∷ fields) [] = []
 field_names section (field ∷ fields) (place ∷ places) = (FieldName section field.0, place) ∷ field_names section fields places
 
+-- the names in an item, where it is a section
 abbrev pub inner_names : ℕ → Contents → List ℕ → List (Name × ℕ)
 inner_names section (FieldContents value) places = []
 inner_names section (SectionContents fields) places = field_names section fields places

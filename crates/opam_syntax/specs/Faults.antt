@@ -30,6 +30,7 @@ is_opening Not = true
 is_opening Defined = true
 is_opening token = false
 
+-- such a token begins at the place
 abbrev pub opens_at : ℕ → Placed → Bool
 opens_at place (placed token span) = is_opening token && span.start == place
 
@@ -58,6 +59,7 @@ pub record IsDeepAt (bytes : List ℕ) (place : ℕ) : Type 0 where
   pub deep : IsTooDeep bytes place
   pub first : (earlier : ℕ) → earlier < place → ¬ (IsTooDeep bytes earlier)
 
+-- no place is too deep
 abbrev pub IsNowhereDeep : List ℕ → Type 0
 IsNowhereDeep bytes = (place : ℕ) → ¬ (IsTooDeep bytes place)
 

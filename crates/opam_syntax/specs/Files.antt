@@ -21,6 +21,7 @@ pub record Entry : Type 0 where
   pub span : Span
   pub places : List ℕ  -- where the names of the fields of a section begin
 
+-- a field, from the start of its name to the end of its value
 abbrev pub field_entry : List ℕ → Span → Node → Entry
 field_entry name from value = record {
   key = record { name = name; section = false; label = None };
@@ -29,6 +30,7 @@ field_entry name from value = record {
   places = [];
 }
 
+-- a section, from the start of its name to its closing brace
 abbrev pub section_entry : List ℕ → Option (List ℕ) → Span → List (List ℕ × Node) → List ℕ → Span → Entry
 section_entry name label from fields places to = record {
   key = record { name = name; section = true; label = label };

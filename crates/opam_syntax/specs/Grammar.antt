@@ -36,6 +36,7 @@ atom_of token = None
 abbrev pub node : Value-F Value Node → Span → Span → Node
 node value from to = record { value = roll-Value value; span = record { start = from.start; end = to.end } }
 
+-- the span of the last of several nodes
 abbrev pub last_span : Node → List Node → Span
 last_span first [] = first.span
 last_span first (next ∷ more) = last_span next more
@@ -45,10 +46,12 @@ abbrev pub all_of : Node → List Node → Node
 all_of first [] = first
 all_of first (next ∷ more) = node (Value-F.And (first ∷ next ∷ more)) first.span (last_span next more)
 
+-- the same joined by `|`
 abbrev pub any_of : Node → List Node → Node
 any_of first [] = first
 any_of first (next ∷ more) = node (Value-F.Or (first ∷ next ∷ more)) first.span (last_span next more)
 
+-- the sign of a relation comes next
 abbrev pub begins_relation : List Placed → Bool
 begins_relation (placed (Relation op) at ∷ tokens) = true
 begins_relation tokens = false

@@ -10,6 +10,7 @@ use Rattle.opam_syntax.specs.declared.tree.Value.TheOpen.{Value-F, Node-F}
 use Rattle.opam_syntax.specs.declared.tree.Value.TheFolds.{fold-Node}
 use Rattle.opam_syntax.specs.Files.{Contents, FieldContents, SectionContents, Entry}
 
+-- the largest of numbers, or 0
 abbrev pub most : List ℕ → ℕ
 most [] = 0
 most (n ∷ numbers) = max n (most numbers)
@@ -31,12 +32,15 @@ layer_depth (Value-F.And nodes) = most nodes
 layer_depth (Value-F.Or nodes) = most nodes
 layer_depth (Value-F.Env op left right) = max left right
 
+-- a span adds nothing
 abbrev pub node_depth : Node-F ℕ ℕ → ℕ
 node_depth node = node.value
 
+-- how deeply a node nests
 abbrev pub depth : Node → ℕ
 depth = fold-Node ℕ ℕ layer_depth node_depth
 
+-- the braces of a section count
 abbrev pub contents_depth : Contents → ℕ
 contents_depth (FieldContents value) = depth value
 contents_depth (SectionContents fields) = 1 + most (map (λ field. depth field.1) fields)
@@ -45,14 +49,17 @@ contents_depth (SectionContents fields) = 1 + most (map (λ field. depth field.1
 abbrev pub AreShallow : List Entry → Type 0
 AreShallow entries = most (map (λ entry. contents_depth entry.contents) entries) ≤ 64
 
+-- the first that is there
 abbrev pub first_of : Option ℕ → Option ℕ → Option ℕ
 first_of None other = other
 first_of (Some n) other = Some n
 
+-- the first that is there of several
 abbrev pub first_among : List (Option ℕ) → Option ℕ
 first_among [] = None
 first_among (found ∷ more) = first_of found (first_among more)
 
+-- within one bracket or prefix operator more
 abbrev pub deeper : Option ℕ → Option ℕ
 deeper None = None
 deeper (Some n) = Some (1 + n)
@@ -74,6 +81,7 @@ layer_around (Value-F.And nodes) = first_among nodes
 layer_around (Value-F.Or nodes) = first_among nodes
 layer_around (Value-F.Env op left right) = first_of left right
 
+-- a place lies in a span
 abbrev pub is_in : ℕ → Span → Bool
 is_in place span = nat_le span.start place && nat_lt place span.end
 
@@ -85,6 +93,7 @@ node_around place node = if is_in place node.span then first_of node.value (Some
 abbrev pub around : ℕ → Node → Option ℕ
 around place = fold-Node (Option ℕ) (Option ℕ) layer_around (node_around place)
 
+-- in how many of an item's brackets and prefix operators a place stands
 abbrev pub contents_around : ℕ → Contents → Option ℕ
 contents_around place (FieldContents value) = around place value
 contents_around place (SectionContents fields) = deeper (first_among (map (λ field. around place field.1) fields))

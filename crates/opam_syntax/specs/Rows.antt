@@ -18,6 +18,7 @@ use Rattle.opam_syntax.specs.Trees.{IsSpelling, HasEntries}
 abbrev pub escapes_text : List ℕ
 escapes_text = codes "\\\\\\\"\\'\\n\\t\\r\\b\\ \\065\\x4a\\\n \t z\""
 
+-- the bytes that they stand for
 abbrev pub escapes : List ℕ
 escapes = 92 ∷ 34 ∷ 39 ∷ 10 ∷ 9 ∷ 13 ∷ 8 ∷ 32 ∷ 65 ∷ 74 ∷ 122 ∷ []
 
@@ -63,6 +64,7 @@ any_value =
     spanned (Value-F.Ident (record { scope = Some (codes "lib"); name = codes "y" })) 12 17 ∷ [])) 6 18)) 5 18 ∷ []) 0 18 ∷
     related Ne (word (codes "z") 21 22) (text (codes "1") 26 29) 21 29 ∷ [])) 0 29
 
+-- an update
 abbrev pub update_value : Node
 update_value = spanned (Value-F.Env Before (word (codes "PATH") 0 4) (text (codes "bin") 8 13)) 0 13
 

@@ -13,6 +13,7 @@ use Rattle.opam_syntax.specs.Files.{Entry, field_entry}
 abbrev pub span : ℕ → ℕ → Span
 span from to = record { start = from; end = to }
 
+-- a value at these places
 abbrev pub spanned : Value-F Value Node → ℕ → ℕ → Node
 spanned value from to = record { value = roll-Value value; span = span from to }
 
@@ -20,30 +21,39 @@ spanned value from to = record { value = roll-Value value; span = span from to }
 abbrev pub word : List ℕ → ℕ → ℕ → Node
 word name = spanned (Value-F.Ident (record { scope = None; name = name }))
 
+-- a text in quotes
 abbrev pub text : List ℕ → ℕ → ℕ → Node
 text bytes = spanned (Value-F.Text bytes)
 
+-- an integer
 abbrev pub int : ℤ → ℕ → ℕ → Node
 int number = spanned (Value-F.Int number)
 
+-- a list
 abbrev pub list_of : List Node → ℕ → ℕ → Node
 list_of nodes = spanned (Value-F.List nodes)
 
+-- a value with braces
 abbrev pub braced : Node → List Node → ℕ → ℕ → Node
 braced value nodes = spanned (Value-F.Braced value nodes)
 
+-- a relation
 abbrev pub related : RelOp → Node → Node → ℕ → ℕ → Node
 related op left right = spanned (Value-F.Rel op left right)
 
+-- a relation without a left side
 abbrev pub pre_related : RelOp → Node → ℕ → ℕ → Node
 pre_related op right = spanned (Value-F.PreRel op right)
 
+-- values joined by `&`
 abbrev pub conjoined : List Node → ℕ → ℕ → Node
 conjoined nodes = spanned (Value-F.And nodes)
 
+-- a short sample
 abbrev pub sample_text : List ℕ
 sample_text = codes "a:[ x \"y\"{>=\"2\"} ]"
 
+-- its items
 abbrev pub sample : List Entry
 sample =
     field_entry (codes "a") (span 0 1) (
@@ -53,9 +63,11 @@ sample =
     []) 2 18) ∷
     []
 
+-- a lock
 abbrev pub lock_text : List ℕ
 lock_text = codes "name: \"proj\"\ndepends: [\"alcotest\" {= \"1.7.0\" & with-test} \"app\" {= \"1.0\"} \"dune\" {= \"3.10.0\"} \"fmt\" {= \"0.9.0\"}]\n"
 
+-- its items
 abbrev pub lock : List Entry
 lock =
     field_entry (codes "name") (span 0 4) (text (codes "proj") 6 12) ∷
@@ -70,9 +82,11 @@ lock =
     []) 22 112) ∷
     []
 
+-- an opam file of a few fields
 abbrev pub dune_text : List ℕ
 dune_text = codes "opam-version: \"2.0\"\nbuild: [[\"ocaml\" \"boot.ml\" \"-j\" jobs] [\"./dune.exe\" \"build\" \"-p\" name]]\n"
 
+-- its items
 abbrev pub dune : List Entry
 dune =
     field_entry (codes "opam-version") (span 0 12) (text (codes "2.0") 14 19) ∷
@@ -93,9 +107,11 @@ dune =
     []) 27 91) ∷
     []
 
+-- an opam file with a condition on a word of a command
 abbrev pub fmt_text : List ℕ
 fmt_text = codes "opam-version: \"2.0\"\ndepends: [\"dune\" {>= \"2.0\" & build}]\nbuild: [[\"dune\" \"build\" \"-p\" name \"-j\" jobs \"@runtest\" {with-test}]]\n"
 
+-- its items
 abbrev pub fmt : List Entry
 fmt =
     field_entry (codes "opam-version") (span 0 12) (text (codes "2.0") 14 19) ∷
@@ -119,9 +135,11 @@ fmt =
     []) 64 125) ∷
     []
 
+-- an opam file with a section and most kinds of values
 abbrev pub app_text : List ℕ
 app_text = codes "opam-version: \"2.0\"\ndepends: [\"fmt\" \"dune\" {>= \"2.0\"}]\navailable: os = \"linux\"\n"
 
+-- its items
 abbrev pub app : List Entry
 app =
     field_entry (codes "opam-version") (span 0 12) (text (codes "2.0") 14 19) ∷
@@ -137,6 +155,7 @@ app =
 abbrev pub doubled_text : List ℕ
 doubled_text = codes "a: x a: y"
 
+-- its items, one name of which comes twice
 abbrev pub doubled : List Entry
 doubled =
     field_entry (codes "a") (span 0 1) (word (codes "x") 3 4) ∷

@@ -9,6 +9,7 @@ use Rattle.opam_syntax.specs.declared.tree.RelOp.TheVariants.{Eq, Ne, Lt, Le, Gt
 use Rattle.opam_syntax.specs.declared.tree.EnvOp.{EnvOp}
 use Rattle.opam_syntax.specs.declared.tree.EnvOp.TheVariants.{Set, Before, After, BeforeKeep, AfterKeep}
 
+-- the signs of relations
 abbrev pub relation_text : RelOp → List ℕ
 relation_text Eq = codes "="
 relation_text Ne = codes "!="
@@ -17,6 +18,7 @@ relation_text Le = codes "<="
 relation_text Gt = codes ">"
 relation_text Ge = codes ">="
 
+-- the signs of updates; `=` is that of a relation too
 abbrev pub update_text : EnvOp → List ℕ
 update_text Set = codes "="
 update_text Before = codes "+="

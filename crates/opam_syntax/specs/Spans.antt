@@ -7,6 +7,7 @@ use Rattle.opam_syntax.specs.declared.tree.Value.TheOpen.{Value-F, Node-F}
 use Rattle.opam_syntax.specs.declared.tree.Value.TheFolds.{fold-Node}
 use Rattle.opam_syntax.specs.Files.{Contents, FieldContents, SectionContents}
 
+-- the span of some bytes, within so many
 abbrev pub span_within : ℕ → Span → Bool
 span_within total span = nat_lt span.start span.end && nat_le span.end total
 
@@ -27,6 +28,7 @@ parts_within (Value-F.And nodes) = list_all (λ node. node) nodes
 parts_within (Value-F.Or nodes) = list_all (λ node. node) nodes
 parts_within (Value-F.Env op left right) = left && right
 
+-- the span of a node and those of its parts
 abbrev pub node_within : ℕ → Node-F Bool Bool → Bool
 node_within total node = span_within total node.span && node.value
 
@@ -34,6 +36,7 @@ node_within total node = span_within total node.span && node.value
 abbrev pub within : ℕ → Node → Bool
 within total = fold-Node Bool Bool parts_within (node_within total)
 
+-- the spans in an item
 abbrev pub contents_within : ℕ → Contents → Bool
 contents_within total (FieldContents value) = within total value
 contents_within total (SectionContents fields) = list_all (λ field. within total field.1) fields

@@ -33,17 +33,21 @@ byte_text b =
     else (if b == 13 then codes "\\r"
     else (if nat_lt b 32 || b == 127 then decimal_escape b else b ∷ []))))
 
+-- a text in quotes
 abbrev pub quoted : List ℕ → List ℕ
 quoted bytes = 34 ∷ flat_map byte_text bytes ++ 34 ∷ []
 
+-- a boolean
 abbrev pub flag_text : Bool → List ℕ
 flag_text true = codes "true"
 flag_text false = codes "false"
 
+-- a scope and its colon, where there is one
 abbrev pub scope_text : Option (List ℕ) → List ℕ
 scope_text None = []
 scope_text (Some scope) = scope ++ codes ":"
 
+-- an identifier
 abbrev pub variable_text : Var → List ℕ
 variable_text variable = scope_text variable.scope ++ variable.name
 
@@ -64,19 +68,24 @@ layer_text (Value-F.And nodes) = joined_by (codes " & ") nodes
 layer_text (Value-F.Or nodes) = joined_by (codes " | ") nodes
 layer_text (Value-F.Env op left right) = left ++ codes " " ++ update_text op ++ codes " " ++ right
 
+-- a span adds nothing
 abbrev pub node_text : Node-F (List ℕ) (List ℕ) → List ℕ
 node_text node = node.value
 
+-- how a value is spelled
 abbrev pub value_text : Node → List ℕ
 value_text = fold-Node (List ℕ) (List ℕ) layer_text node_text
 
+-- a field is a line
 abbrev pub field_text : List ℕ → Node → List ℕ
 field_text name value = name ++ codes ": " ++ value_text value ++ codes "\n"
 
+-- a label and a space, where there is one
 abbrev pub label_text : Option (List ℕ) → List ℕ
 label_text None = []
 label_text (Some label) = quoted label ++ codes " "
 
+-- a section has a line for each field, and one for its closing brace
 abbrev pub item_text : Key → Contents → List ℕ
 item_text key (FieldContents value) = field_text key.name value
 item_text key (SectionContents fields) =

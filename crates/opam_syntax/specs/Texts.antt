@@ -21,9 +21,11 @@ decimal (a ∷ b ∷ c ∷ bytes) =
     if is_digit a && is_digit b && is_digit c && nat_le value 255 then Gives (value ∷ []) bytes else NoPiece
 decimal bytes = NoPiece
 
+-- a hexadecimal digit of either case
 abbrev pub is_hexadecimal : ℕ → Bool
 is_hexadecimal b = is_digit b || (nat_le 65 b && nat_le b 70) || (nat_le 97 b && nat_le b 102)
 
+-- its value
 abbrev pub hexadecimal_value : ℕ → ℕ
 hexadecimal_value b = if nat_le b 57 then b - 48 else (if nat_le b 70 then b - 55 else b - 87)
 
@@ -38,6 +40,7 @@ hexadecimal bytes = NoPiece
 abbrev pub simple_escapes : List (ℕ × ℕ)
 simple_escapes = (92, 92) ∷ (34, 34) ∷ (39, 39) ∷ (110, 10) ∷ (116, 9) ∷ (114, 13) ∷ (98, 8) ∷ (32, 32) ∷ []
 
+-- the byte that an escape of one byte stands for, by this table
 abbrev pub simple : List (ℕ × ℕ) → ℕ → List ℕ → Piece
 simple [] b bytes = NoPiece
 simple (escape ∷ more) b bytes = if escape.0 == b then Gives (escape.1 ∷ []) bytes else simple more b bytes
@@ -57,6 +60,7 @@ abbrev pub quote : Bool → List ℕ → Piece
 quote false bytes = Closes bytes
 quote true bytes = if begins_with (34 ∷ 34 ∷ []) bytes then Closes (drop 2 bytes) else Gives (34 ∷ []) bytes
 
+-- what stands first inside a text
 abbrev pub piece : Bool → List ℕ → Piece
 piece long [] = NoPiece
 piece long (b ∷ bytes) =

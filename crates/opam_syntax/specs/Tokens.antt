@@ -17,6 +17,7 @@ pub data First : Type 0 where
   Quote : Bool → List ℕ → First
   NoToken : First
 
+-- a space, a tab, a carriage return or a newline
 abbrev pub is_blank : ℕ → Bool
 is_blank b = b == 32 || b == 9 || b == 13 || b == 10
 
@@ -30,14 +31,17 @@ abbrev pub after_comment : List ℕ → First
 after_comment [] = NoToken
 after_comment (b ∷ bytes) = if begins_with (codes "*)") (b ∷ bytes) then Gap (drop 1 bytes) else after_comment bytes
 
+-- a word that is a token
 abbrev pub word_first : Option Token → List ℕ → First
 word_first None rest = NoToken
 word_first (Some token) rest = Single token rest
 
+-- a sign that is a token
 abbrev pub sign_first : Option (Token × List ℕ) → First
 sign_first None = NoToken
 sign_first (Some sign) = Single sign.0 sign.1
 
+-- what bytes begin with: a gap, a quote, a word or a sign
 abbrev pub first : List ℕ → First
 first [] = End
 first (b ∷ bytes) =

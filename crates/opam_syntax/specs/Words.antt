@@ -10,9 +10,11 @@ use Rattle.opam_names.specs.Paths.{onto_first}
 use Rattle.opam_syntax.specs.declared.token.Token.{Token}
 use Rattle.opam_syntax.specs.declared.token.Token.TheVariants.{Flag, Int, Plain, Scoped}
 
+-- a letter, a digit, `_` or `-`
 abbrev pub is_word_byte : ℕ → Bool
 is_word_byte b = is_letter b || is_digit b || b == 95 || b == 45
 
+-- the bytes begin with such a byte
 abbrev pub begins_word : List ℕ → Bool
 begins_word [] = false
 begins_word (b ∷ bytes) = is_word_byte b
@@ -42,6 +44,7 @@ abbrev pub negative_of : List ℕ → Option ℤ
 negative_of digits =
     if are_digits digits && nat_le (number digits) (2 ^ 63) then Some (neg_ℤ (pos (number digits))) else None
 
+-- the integer that a word is, where it is in range
 abbrev pub int_of : List ℕ → Option ℤ
 int_of [] = None
 int_of (b ∷ bytes) = if b == 45 then negative_of bytes else natural_of (b ∷ bytes)
@@ -51,6 +54,7 @@ abbrev pub before : ℕ → List ℕ → List ℕ
 before mark [] = []
 before mark (b ∷ bytes) = if b == mark then [] else b ∷ before mark bytes
 
+-- what stands after the first such byte
 abbrev pub after : ℕ → List ℕ → List ℕ
 after mark [] = []
 after mark (b ∷ bytes) = if b == mark then bytes else after mark bytes
@@ -64,17 +68,21 @@ scope_parts (b ∷ bytes) = if b == 43 then [] ∷ scope_parts bytes else onto_f
 abbrev pub is_scope_part : List ℕ → Bool
 is_scope_part part = list_any is_letter part || bytes_eq part (95 ∷ [])
 
+-- an identifier without a scope has a letter
 abbrev pub is_plain : List ℕ → Bool
 is_plain word = list_all is_word_byte word && list_any is_letter word
 
+-- an identifier with a scope: parts, a colon, and a name with a letter
 abbrev pub is_scoped : List ℕ → Bool
 is_scoped word =
     list_any (λ b. b == 58) word && list_all is_scope_part (scope_parts (before 58 word)) && list_any is_letter (after 58 word)
 
+-- the identifier that a word is
 abbrev pub identifier_of : List ℕ → Option Token
 identifier_of word =
     if is_plain word then Some (Plain word) else (if is_scoped word then Some (Scoped (before 58 word) (after 58 word)) else None)
 
+-- a word that is both is an integer
 abbrev pub int_or_identifier : Option ℤ → List ℕ → Option Token
 int_or_identifier (Some n) word = Some (Int n)
 int_or_identifier None word = identifier_of word

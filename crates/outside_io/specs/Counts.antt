@@ -20,5 +20,6 @@ Quiet before now = now < min (before + 1) last_count
 abbrev pub ByPath : Type 0 → Type 0
 ByPath X = FinMap (slice_cmp nat_cmp) X
 
+-- files of the machine
 abbrev pub Files : Type 0
 Files = ByPath (List ℕ)

@@ -22,5 +22,6 @@ pub record IsLeastFate (told : Told) (job : Job) : Type 0 where
   pub stopped : (step : ℕ) (ending : Ending) → (fate_of told job ≡ Stopped step ending) ↔ IsFirstStop told job step ending
   pub built : (fate_of told job ≡ Built) ↔ AllEndWell told job
 
+-- that holds of each job, whatever a workshop tells
 abbrev pub FatesAreLeast : Type 0
 FatesAreLeast = (told : Told) (job : Job) → IsLeastFate told job

@@ -57,6 +57,7 @@ starts_well Killed = false
 starts_well NotStarted = false
 starts_well NotPrepared = true
 
+-- it is not `NotPrepared`
 abbrev pub is_prepared : Ending → Bool
 is_prepared (Exit code) = true
 is_prepared Killed = true
@@ -68,6 +69,7 @@ abbrev pub goes_on_well : List Ending → Bool
 goes_on_well [] = true
 goes_on_well (ending ∷ endings) = is_prepared ending && goes_on_well endings
 
+-- a script gives its steps endings that they may have
 abbrev pub is_well : List Ending → Bool
 is_well [] = true
 is_well (ending ∷ endings) = starts_well ending && goes_on_well endings

@@ -25,6 +25,7 @@ IsEndingOf step Killed = 0 < step
 IsEndingOf step NotStarted = 0 < step
 IsEndingOf step NotPrepared = step ≡ 0
 
+-- a workshop that tells gives the step its told ending
 abbrev pub StepTells : Option Told → Job → ℕ → Result Ending OutOfMemory → Type 0
 StepTells shop job step result = (told : Told) → shop ≡ Some told → IfOk result (λ ending. ending ≡ told.ending job step)
 
@@ -37,6 +38,7 @@ IsSeen (Some (Some file)) limit (Bytes bytes) = (bytes ≡ file) × (length file
 IsSeen (Some (Some file)) limit TooLong = limit < length file
 IsSeen (Some (Some file)) limit Unreadable = ⊥
 
+-- a workshop that tells answers what stands at the path
 abbrev pub ReadTells : Option Told → Job → List ℕ → ℕ → Result Seen OutOfMemory → Type 0
 ReadTells shop job path limit result = (told : Told) → shop ≡ Some told → IfOk result (λ seen. IsSeen (get (told.files job) path) limit seen)
 
