@@ -1,4 +1,6 @@
+pub mod HostEffects
 pub mod LeastFates
+pub mod SinkEffects
 pub mod Tellings
 pub mod Tells
 pub mod Well

@@ -1,7 +1,9 @@
 pub mod Counts
 pub mod Fates
+pub mod HostEffects
 pub mod Hosts
 pub mod Memories
 pub mod Scripts
 pub mod Shops
+pub mod SinkEffects
 pub mod Sinks

@@ -2,6 +2,7 @@
 //! packages; and for tests, of each one that tells what it holds.
 #![tactic(auto)]
 
+pub mod calls;
 mod host;
 mod memory_host;
 mod memory_sink;

@@ -2,6 +2,7 @@
 ghost use Rattle.std.specs.Prelude.{◌≡◌, ◌≤◌, true, false};
 ghost use Rattle.std.specs.Bool.{OnTrue, OnFalse};
 ghost use Rattle.outside_io.specs.Counts.{Rose};
+ghost use Rattle.outside_io.specs.SinkEffects.{IsTold};
 ghost use Rattle.outside_io.specs.Sinks.{Got, GotPrefix};
 
 use crate::Sink;
@@ -44,6 +45,9 @@ impl<'a, S: Sink> Teller<'a, S> {
         ensures stays { self.old.stopped ≡ true → self.new.stopped ≡ true }
         ensures silent { self.old.stopped ≡ true → S.written self.new.sink.now ≡ S.written self.old.sink.now }
         ensures unmoved { self.old.stopped ≡ true → S.faults self.new.sink.now ≡ S.faults self.old.sink.now }
+        // The same in one word, for one text after another.
+        ensures told { IsTold S.Sink bytes.now self.old.stopped self.new.stopped
+            self.old.sink.now self.new.sink.now }
     {
         if !self.stopped && !write_all(self.sink, bytes) {
             self.stopped = true;
