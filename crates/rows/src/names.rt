@@ -1,0 +1,184 @@
+// Calls of `opam_names`.
+ghost use Rattle.std.specs.Prelude.{◌<◌, ◌^◌, length};
+
+use crate::fault::Fault;
+use crate::lexer::Word;
+use crate::script::Call;
+use crate::show::{answered, plain, quoted};
+use opam_names::{Name, Pkg, ReadFault, RelPath, Version, text_order};
+use std::alloc::Global;
+use std::cmp::Ordering;
+
+pub fn answer(alloc: Global, call: &Call) -> Result<Option<String>, Fault> {
+    let answer = match (call.name.as_str(), call.words.as_slice()) {
+        ("Name::read", [word]) => read_name(alloc, word),
+        ("Version::read", [word]) => read_version(alloc, word),
+        ("Pkg::read", [word]) => read_pkg(alloc, word),
+        ("RelPath::read", [word]) => read_path(alloc, word),
+        ("RelPath::fixed", []) => fixed(alloc),
+        ("RelPath::join", [folder, below]) => join(alloc, folder, below),
+        ("RelPath::above", [one, other]) => above(alloc, one, other),
+        ("Pkg::print", [name, version]) => print(alloc, name, version),
+        ("Name::copy", [word]) => copy_name(alloc, word),
+        ("Version::copy", [word]) => copy_version(alloc, word),
+        ("Pkg::copy", [word]) => copy_pkg(alloc, word),
+        ("RelPath::copy", [word]) => copy_path(alloc, word),
+        ("Name::cmp", [one, other]) => compare(alloc, one, other),
+        ("Version::order", [one, other]) => order(alloc, one, other),
+        ("text_order", [one, other]) => order_texts(alloc, one, other),
+        _ => return Ok(None),
+    };
+    Ok(Some(answer?))
+}
+
+/// Bytes that a call may take: fewer than 2^32.
+pub fn bytes_of(word: &Word) -> &[u8]
+    ensures { length result.now < 2 ^ 32 }
+{
+    let bytes = word.bytes.as_slice();
+    if bytes.len() < 4294967296 { bytes } else { b"" }
+}
+
+/// The name that a word is to be.
+pub fn name_of(alloc: Global, word: &Word) -> Result<Name, Fault> {
+    match Name::read(alloc, bytes_of(word)) {
+        Ok(name) => Ok(name),
+        Err(ReadFault::Bad { .. }) => Err(Fault::Line("a word is no name")),
+        Err(ReadFault::Memory) => Err(Fault::Memory),
+    }
+}
+
+/// The version that a word is to be.
+pub fn version_of(alloc: Global, word: &Word) -> Result<Version, Fault> {
+    match Version::read(alloc, bytes_of(word)) {
+        Ok(version) => Ok(version),
+        Err(ReadFault::Bad { .. }) => Err(Fault::Line("a word is no version")),
+        Err(ReadFault::Memory) => Err(Fault::Memory),
+    }
+}
+
+/// The package that a word is to be.
+pub fn pkg_of(alloc: Global, word: &Word) -> Result<Pkg, Fault> {
+    match Pkg::read(alloc, bytes_of(word)) {
+        Ok(pkg) => Ok(pkg),
+        Err(ReadFault::Bad { .. }) => Err(Fault::Line("a word is no package")),
+        Err(ReadFault::Memory) => Err(Fault::Memory),
+    }
+}
+
+/// The path that a word is to be.
+pub fn path_of(alloc: Global, word: &Word) -> Result<RelPath, Fault> {
+    match RelPath::read(alloc, bytes_of(word)) {
+        Ok(path) => Ok(path),
+        Err(ReadFault::Bad { .. }) => Err(Fault::Line("a word is no path")),
+        Err(ReadFault::Memory) => Err(Fault::Memory),
+    }
+}
+
+fn faulty(alloc: Global, fault: ReadFault) -> Result<String, Fault> {
+    match fault {
+        ReadFault::Bad { at } => Ok(format!(in alloc; "bad at {at}")?),
+        ReadFault::Memory => Err(Fault::Memory),
+    }
+}
+
+fn read_name(alloc: Global, word: &Word) -> Result<String, Fault> {
+    match Name::read(alloc, bytes_of(word)) {
+        Ok(name) => plain(alloc, name.as_str()),
+        Err(fault) => faulty(alloc, fault),
+    }
+}
+
+fn read_version(alloc: Global, word: &Word) -> Result<String, Fault> {
+    match Version::read(alloc, bytes_of(word)) {
+        Ok(version) => plain(alloc, version.as_str()),
+        Err(fault) => faulty(alloc, fault),
+    }
+}
+
+fn read_pkg(alloc: Global, word: &Word) -> Result<String, Fault> {
+    match Pkg::read(alloc, bytes_of(word)) {
+        Ok(pkg) => show_pkg(alloc, &pkg),
+        Err(fault) => faulty(alloc, fault),
+    }
+}
+
+fn show_pkg(alloc: Global, pkg: &Pkg) -> Result<String, Fault> {
+    let name = pkg.name.as_str();
+    let version = pkg.version.as_str();
+    Ok(format!(in alloc; "{name} and {version}")?)
+}
+
+fn read_path(alloc: Global, word: &Word) -> Result<String, Fault> {
+    match RelPath::read(alloc, bytes_of(word)) {
+        Ok(path) => quoted(alloc, path.as_str().as_bytes()),
+        Err(fault) => faulty(alloc, fault),
+    }
+}
+
+// It is for paths that stand in the code.
+fn fixed(alloc: Global) -> Result<String, Fault> {
+    let path = RelPath::fixed(alloc, "bin/x")?;
+    quoted(alloc, path.as_str().as_bytes())
+}
+
+fn join(alloc: Global, folder: &Word, below: &Word) -> Result<String, Fault> {
+    let folder = path_of(alloc, folder)?;
+    match folder.join(alloc, &path_of(alloc, below)?) {
+        Ok(path) => quoted(alloc, path.as_str().as_bytes()),
+        Err(fault) => faulty(alloc, fault),
+    }
+}
+
+fn above(alloc: Global, one: &Word, other: &Word) -> Result<String, Fault> {
+    let one = path_of(alloc, one)?;
+    answered(alloc, one.above(&path_of(alloc, other)?))
+}
+
+fn print(alloc: Global, name: &Word, version: &Word) -> Result<String, Fault> {
+    let pkg = Pkg {
+        name: name_of(alloc, name)?,
+        version: version_of(alloc, version)?,
+    };
+    Ok(pkg.print(alloc)?)
+}
+
+fn copy_name(alloc: Global, word: &Word) -> Result<String, Fault> {
+    plain(alloc, name_of(alloc, word)?.copy(alloc)?.as_str())
+}
+
+fn copy_version(alloc: Global, word: &Word) -> Result<String, Fault> {
+    plain(alloc, version_of(alloc, word)?.copy(alloc)?.as_str())
+}
+
+fn copy_pkg(alloc: Global, word: &Word) -> Result<String, Fault> {
+    show_pkg(alloc, &pkg_of(alloc, word)?.copy(alloc)?)
+}
+
+fn copy_path(alloc: Global, word: &Word) -> Result<String, Fault> {
+    let path = path_of(alloc, word)?.copy(alloc)?;
+    quoted(alloc, path.as_str().as_bytes())
+}
+
+fn show_order(alloc: Global, order: Ordering) -> Result<String, Fault> {
+    let sign = match order {
+        Ordering::Less => "<",
+        Ordering::Equal => "equal",
+        Ordering::Greater => ">",
+    };
+    plain(alloc, sign)
+}
+
+fn compare(alloc: Global, one: &Word, other: &Word) -> Result<String, Fault> {
+    let one = name_of(alloc, one)?;
+    show_order(alloc, one.cmp(&name_of(alloc, other)?))
+}
+
+fn order(alloc: Global, one: &Word, other: &Word) -> Result<String, Fault> {
+    let one = version_of(alloc, one)?;
+    show_order(alloc, one.order(&version_of(alloc, other)?))
+}
+
+fn order_texts(alloc: Global, one: &Word, other: &Word) -> Result<String, Fault> {
+    show_order(alloc, text_order(one.text()?, other.text()?))
+}
