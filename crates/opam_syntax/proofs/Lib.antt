@@ -11,3 +11,4 @@ pub mod SpannedFiles
 pub mod Shallow
 pub mod Deeply
 pub mod Printed
+pub mod Joined

@@ -85,13 +85,20 @@ abbrev pub label_text : Option (List ℕ) → List ℕ
 label_text None = []
 label_text (Some label) = quoted label ++ codes " "
 
+-- the fields of a section, each on a line of its own
+abbrev pub fields_text : List (List ℕ × Node) → List ℕ
+fields_text fields = flat_map (λ field. codes "  " ++ field_text field.0 field.1) fields
+
 -- a section has a line for each field, and one for its closing brace
 abbrev pub item_text : Key → Contents → List ℕ
 item_text key (FieldContents value) = field_text key.name value
 item_text key (SectionContents fields) =
-    key.name ++ codes " " ++ label_text key.label ++ codes "{\n"
-    ++ flat_map (λ field. codes "  " ++ field_text field.0 field.1) fields ++ codes "}\n"
+    key.name ++ codes " " ++ label_text key.label ++ codes "{\n" ++ fields_text fields ++ codes "}\n"
+
+-- one item after another
+abbrev pub items_text : List (Key × Contents) → List ℕ
+items_text items = flat_map (λ item. item_text item.0 item.1) items
 
 -- the canonical spelling
 abbrev pub file_text : File → List ℕ
-file_text file = flat_map (λ item. item_text item.0 item.1) (items_of file)
+file_text file = items_text (items_of file)

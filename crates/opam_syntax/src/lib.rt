@@ -4,6 +4,7 @@
 mod fault;
 mod file;
 mod laws;
+mod printing;
 mod rows;
 mod token;
 mod tree;
@@ -13,5 +14,6 @@ pub use file::{File, Item, Key, Label, Word};
 pub use laws::{
     files_have_no_fault, one_derivation, one_fault_for_bytes, one_tree_for_bytes, spans_are_within,
 };
+pub use printing::print_file;
 pub use rows::{rows_are_faulty, rows_are_spelled, sample_is_printed, values_are_printed};
 pub use tree::{EnvOp, Node, RelOp, Span, Value, Var};
