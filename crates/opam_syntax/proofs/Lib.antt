@@ -11,4 +11,6 @@ pub mod SpannedFiles
 pub mod Shallow
 pub mod Deeply
 pub mod Printed
-pub mod Joined
+pub mod PrintJoined
+pub mod PrintWords
+pub mod PrintNumbers

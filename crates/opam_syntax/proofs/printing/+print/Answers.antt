@@ -1,4 +1,4 @@
-use Rattle.opam_syntax.proofs.Joined.{first_is_printed}
+use Rattle.opam_syntax.proofs.PrintJoined.{first_is_printed}
 use Rattle.opam_syntax.proofs.printing.+print.Goals as goal
 
 pub print_joined-loop-node-init : goal.print_joined-loop-node-init

@@ -1,6 +1,6 @@
 use Rattle.std.proofs.Common.{◌≡◌, ◌++◌, drop, map}
 use Rattle.opam_syntax.specs.Spelling.{joined_by, value_text}
-use Rattle.opam_syntax.proofs.Joined.{followed}
+use Rattle.opam_syntax.proofs.PrintJoined.{followed}
 use Rattle.opam_syntax.proofs.printing.+print.Given as goal
 
 -- what is printed, and then what is left
