@@ -14,3 +14,4 @@ pub mod Printed
 pub mod PrintJoined
 pub mod PrintWords
 pub mod PrintNumbers
+pub mod PrintTokens

@@ -1,16 +1,16 @@
 -- The digits of a number read back as that number.
-use Rattle.std.proofs.Common.{◌≡◌, ℕ, ℤ, pos, zero, suc, ◌+◌, ◌*◌, ◌-◌, ◌/◌, ◌%◌, ◌^◌, ◌<◌, ◌≤◌, Bool, true, false, ◌&&◌, ◌||◌, ◌==◌, List, [], ◌∷◌, ◌++◌, if◌then◌else◌, refl, sym, ap, subst, ◌∙◌, arith, lit<}
+use Rattle.std.proofs.Common.{◌≡◌, ℕ, ℤ, pos, suc, ◌+◌, ◌*◌, ◌-◌, ◌/◌, ◌%◌, ◌^◌, ◌<◌, ◌≤◌, Bool, true, false, ◌&&◌, ◌||◌, List, [], ◌∷◌, ◌++◌, refl, ap, ◌∙◌, arith}
 use Rattle.std.specs.Prelude.{codes, negsuc, neg_ℤ, nat_lt, nat_le, bytes_eq}
 use Rattle.std.specs.Fmt.{decimal, signed_decimal}
 use Rattle.std.specs.List.{list_all}
 use Rattle.std.proofs.lemmas.Bool.Decides.{nat_tests}
 use Rattle.std.proofs.lemmas.Fmt.{decimal_by_steps}
-use Rattle.std.specs.declared.option.Option.TheVariants.{None, Some}
+use Rattle.std.specs.declared.option.Option.TheVariants.{Some}
 use Rattle.opam_names.specs.Names.{is_digit}
 use Rattle.opam_names.specs.Orders.{number, number_after}
 use Rattle.opam_names.proofs.Bytes.{both_left, both_right}
 use Rattle.opam_syntax.specs.declared.token.Token.TheVariants.{Int}
-use Rattle.opam_syntax.specs.Words.{is_word_byte, begins_word, joins, word_of, word_token, are_digits, natural_of, negative_of, int_of, int_or_identifier}
+use Rattle.opam_syntax.specs.Words.{is_word_byte, joins, word_of, are_digits, int_of, int_or_identifier}
 use Rattle.opam_syntax.proofs.PrintWords.{Reads, skip, enter, other_byte}
 use Rattle.opam_syntax.proofs.Spanned.{both}
 

@@ -1,14 +1,11 @@
 -- A word reads back as itself, whatever stands after it that does not join to it.
-use Rattle.std.proofs.Common.{◌≡◌, ◌≢◌, ℕ, Bool, true, false, not, ◌&&◌, ◌||◌, ◌==◌, List, [], ◌∷◌, ◌++◌, length, drop, if◌then◌else◌, refl, sym, ap, subst, ◌∙◌}
-use Rattle.std.specs.Prelude.{codes}
-use Rattle.std.specs.List.{list_all}
+use Rattle.std.proofs.Common.{◌≡◌, ℕ, Bool, true, false, not, ◌&&◌, ◌||◌, ◌==◌, List, [], ◌∷◌, ◌++◌, length, drop, if◌then◌else◌, refl, sym, ap, subst, ◌∙◌}
 use Rattle.std.proofs.lemmas.Bool.{ne_eqb}
-use Rattle.std.specs.declared.option.Option.TheVariants.{None, Some}
-use Rattle.opam_names.proofs.Bytes.{both_left, both_right}
+use Rattle.std.specs.declared.option.Option.TheVariants.{Some}
 use Rattle.opam_syntax.specs.declared.token.Token.{Token}
 use Rattle.opam_syntax.specs.Words.{is_word_byte, begins_word, joins, word_of, word_token}
 use Rattle.opam_syntax.specs.Signs.{begins_with}
-use Rattle.opam_syntax.specs.Tokens.{First, Single, first, is_blank, word_first}
+use Rattle.opam_syntax.specs.Tokens.{Single, first, is_blank, word_first}
 
 -- the bytes do not go on with a word that stands before them
 abbrev pub ends_word : List ℕ → Bool
