@@ -1,4 +1,9 @@
 pub mod Bytes
+pub mod ByteOrders
+pub mod RisingLists
+pub mod ByteSearch
+pub mod ByteSort
+pub mod Tests
 pub mod Parts
 pub mod Runs
 pub mod Ends

@@ -1,3 +1,6 @@
+pub mod Buffers
+pub mod ByteOrderLaws
+pub mod ByteOrders
 pub mod Cut
 pub mod Faults
 pub mod Names
@@ -5,3 +8,4 @@ pub mod OrderLaws
 pub mod Orders
 pub mod Packages
 pub mod Paths
+pub mod TestLaws

@@ -1,5 +1,9 @@
-// Laws of the order of versions, each proved as a clause of a function that does nothing.
+// Laws of the order of versions, of lists in byte order and of tests, each proved as a clause of a function that does nothing.
+ghost use Rattle.opam_names.specs.ByteOrderLaws.{FirstsRise, OrderIsStable, RisingIsKept, TextsRise};
 ghost use Rattle.opam_names.specs.OrderLaws.{EqualVersionsDifferInZeros, FirstDifferenceDecides, LeadingZerosDoNotCount, RunsAreCut, TildeComesFirst, VersionsAreOrdered};
+ghost use Rattle.opam_names.specs.TestLaws.{TestsSayTheSame};
+
+use crate::ByteKey;
 
 /// The order of versions is total and transitive, and each version is equal to itself.
 pub fn versions_are_ordered()
@@ -29,4 +33,29 @@ pub fn first_difference_decides()
 /// The runs of a text are cut where digits begin and end.
 pub fn runs_are_cut()
     ensures { RunsAreCut }
+{}
+
+/// What stays true of lists whose keys rise.
+pub fn rising_is_kept<T: ByteKey>()
+    ensures { RisingIsKept T.key }
+{}
+
+/// What putting a list into byte order leaves.
+pub fn order_is_stable<T: ByteKey>()
+    ensures { OrderIsStable T.key }
+{}
+
+/// What keeping the first of each key leaves.
+pub fn firsts_rise<T: ByteKey>()
+    ensures { FirstsRise T.key }
+{}
+
+/// Texts of which each stands once in byte order rise, and are the same texts.
+pub fn texts_rise()
+    ensures { TextsRise }
+{}
+
+/// The tests that compute say the same as what is said of names, versions and paths.
+pub fn tests_say_the_same()
+    ensures { TestsSayTheSame }
 {}

@@ -7,16 +7,17 @@ ghost use Rattle.std.specs.Cmp.Lexicographic.{slice_cmp};
 ghost use Rattle.std.specs.Cmp.Rules.{comparing};
 ghost use Rattle.std.specs.Ordering.{as_partial_cmp, nat_cmp};
 ghost use Rattle.std.specs.Str.{bytes_eq};
-ghost use Rattle.opam_names.specs.Names.{IsName, is_letter, is_name_byte};
+ghost use Rattle.opam_names.specs.Names.{IsName, is_letter, is_name, is_name_byte};
 ghost use Rattle.opam_names.specs.Faults.{IsFaultOf, IsLongestBegin};
 
+use crate::limits::NAME_LIMIT;
 use crate::{OutOfMemory, ReadFault};
 use std::alloc::Global;
 use std::cmp::Ordering;
 use std::marker::Model;
 
-/// The name of a package: letters, digits, `-`, `_` and `+`, at least one letter, at most 120 bytes (opam manual, file
-/// format: package names).
+/// The name of a package: letters, digits, `-`, `_` and `+`, at least one letter, at most [`NAME_LIMIT`] bytes
+/// (opam manual, file format: package names).
 #[derive(Drop)]
 pub struct Name {
     inner: String,
@@ -37,13 +38,21 @@ impl Model for Name {
 }
 
 impl Name {
+    /// Whether the bytes are the name of a package.
+    pub fn is_name(bytes: &[u8]) -> bool
+        ensures value { result ≡ is_name bytes.now }
+        ensures valid { IsTrue result ↔ IsName bytes.now }
+    {
+        all_name_bytes(bytes) && has_letter(bytes) && bytes.len() <= NAME_LIMIT
+    }
+
     pub fn read(alloc: Global, bytes: &[u8]) -> Result<Name, ReadFault>
         requires { length bytes.now < 2 ^ 32 }
         ensures ok { IfOk result (λ name. name ≡ bytes.now) }
         ensures valid { IfOk result (λ name. IsName name) }
         ensures err { IfErr result (λ fault. IsFaultOf IsName bytes.now fault) }
     {
-        if !is_name(bytes) {
+        if !Name::is_name(bytes) {
             return Err(ReadFault::Bad {
                 at: name_end(bytes) as u32,
             });
@@ -135,18 +144,6 @@ fn has_letter(bytes: &[u8]) -> bool
     bytes.iter().any(|b| letter(*b))
 }
 
-fn is_name(bytes: &[u8]) -> bool
-    ensures { IsTrue result ↔ IsName bytes.now }
-{
-    if !all_name_bytes(bytes) {
-        return false;
-    }
-    if !has_letter(bytes) {
-        return false;
-    }
-    bytes.len() <= 120
-}
-
 // How many bytes of the front are those of names.
 fn name_run(bytes: &[u8]) -> usize
     ensures { result ≡ length (take_while is_name_byte bytes.now) }
@@ -159,8 +156,12 @@ pub(crate) fn name_end(bytes: &[u8]) -> usize
     ensures { IsLongestBegin IsName bytes.now result }
 {
     let run = name_run(bytes);
-    if run < 120 {
+    if run < NAME_LIMIT {
         return run;
     }
-    if has_letter(&bytes[..120]) { 120 } else { 119 }
+    if has_letter(&bytes[..NAME_LIMIT]) {
+        NAME_LIMIT
+    } else {
+        NAME_LIMIT - 1
+    }
 }

@@ -9,7 +9,7 @@ use crate::{Name, OutOfMemory, ReadFault, Version};
 use std::alloc::Global;
 
 /// A package: a name at a version. It is written `name.version`.
-#[derive(Drop)]
+#[derive(Drop, PartialEq, Eq)]
 pub struct Pkg {
     pub name: Name,
     pub version: Version,

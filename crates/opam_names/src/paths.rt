@@ -1,19 +1,23 @@
 // Paths below a folder.
 ghost use Rattle.std.specs.Prelude.{◌≡◌, ◌<◌, ◌≤◌, ◌^◌, ◌↔◌, true, IfOk, IfErr, IfSome, IsTrue, [], ◌∷◌, ◌++◌, length, string_bytes};
 ghost use Rattle.std.specs.List.{list_all, position};
-ghost use Rattle.std.specs.Str.{IsUtf8, IsValidUpTo};
+ghost use Rattle.std.specs.Str.{IsUtf8, IsValidUpTo, bytes_eq, is_utf8};
+ghost use Rattle.std.proofs.Common.{rules};
+ghost use Rattle.std.specs.Cmp.{partial_order_from_own_ties};
+ghost use Rattle.std.specs.Cmp.Lexicographic.{slice_cmp};
+ghost use Rattle.std.specs.Cmp.Rules.{comparing};
+ghost use Rattle.std.specs.Ordering.{as_partial_cmp, nat_cmp};
 ghost use Rattle.opam_names.specs.Faults.{Begins, IsFaultOf, IsLongestBegin};
-ghost use Rattle.opam_names.specs.Paths.{IsPath, IsRelative, IsJoinFault, is_above, is_not_zero, is_part, is_plain_path, is_slash, joined, parts};
+ghost use Rattle.opam_names.specs.Paths.{IsPath, IsRelative, IsJoinFault, is_above, is_relative, is_relative_path, is_not_zero, is_part, is_plain_path, is_slash, joined, parts};
 
 use crate::cut::missing;
+use crate::limits::PATH_LIMIT;
 use crate::{OutOfMemory, ReadFault};
 use std::alloc::Global;
+use std::cmp::Ordering;
 use std::marker::Model;
 
-// In bytes.
-const PATH_LIMIT: usize = 1024;
-
-/// A path below a folder: text without a zero byte, 1 to 1,024 bytes, of parts joined by `/`, none of them empty, `.`
+/// A path below a folder: text without a zero byte, 1 to [`PATH_LIMIT`] bytes, of parts joined by `/`, none of them empty, `.`
 /// or `..`.
 #[derive(Drop)]
 pub struct RelPath {
@@ -35,6 +39,14 @@ impl Model for RelPath {
 }
 
 impl RelPath {
+    /// Whether the bytes are a path below a folder.
+    pub fn is_path(bytes: &[u8]) -> bool
+        ensures value { result ≡ is_relative_path bytes.now }
+        ensures valid { IsTrue result ↔ IsPath bytes.now }
+    {
+        is_text(bytes) && is_relative(bytes)
+    }
+
     pub fn read(alloc: Global, bytes: &[u8]) -> Result<RelPath, ReadFault>
         requires { length bytes.now < 2 ^ 32 }
         ensures ok { IfOk result (λ path. path ≡ bytes.now) }
@@ -66,14 +78,16 @@ impl RelPath {
         })
     }
 
-    /// The path of what stands below this one under that path. `Bad` at 1,024 exactly where it is longer than 1,024
-    /// bytes.
+    /// The path of what stands below this one under that path. `Bad` at [`PATH_LIMIT`] exactly where it is
+    /// longer than that.
     pub fn join(&self, alloc: Global, below: &RelPath) -> Result<RelPath, ReadFault>
         ensures ok { IfOk result (λ path. path ≡ joined self.now below.now) }
         ensures err { IfErr result (λ fault. IsJoinFault (joined self.now below.now) fault) }
     {
         if self.inner.len() + below.inner.len() >= PATH_LIMIT {
-            return Err(ReadFault::Bad { at: 1024 });
+            return Err(ReadFault::Bad {
+                at: PATH_LIMIT as u32,
+            });
         }
         Ok(RelPath {
             inner: joined_text(alloc, self.inner.as_str(), below.inner.as_str())?,
@@ -101,6 +115,52 @@ impl RelPath {
     {
         stands_above(self.inner.as_bytes(), other.inner.as_bytes())
     }
+}
+
+// Paths stand in the order of their bytes.
+impl PartialEq for RelPath {
+    ghost eq = { bytes_eq };
+
+    ghost laws = { Prim.search (comparing, rules) };
+
+    fn eq(&self, other: &RelPath) -> bool {
+        self.inner.as_str() == other.inner.as_str()
+    }
+}
+
+impl Eq for RelPath {
+    ghost laws = { Prim.search (comparing, rules) };
+}
+
+impl Ord for RelPath {
+    ghost cmp = { slice_cmp nat_cmp };
+
+    ghost total = { Prim.search (comparing, rules) };
+
+    ghost matches_partial_cmp = { Prim.search (comparing, rules) };
+
+    ghost matches_eq = { Prim.search (comparing, rules) };
+
+    fn cmp(&self, other: &RelPath) -> Ordering {
+        self.inner.as_str().cmp(other.inner.as_str())
+    }
+}
+
+impl PartialOrd for RelPath {
+    ghost partial_cmp = { as_partial_cmp (slice_cmp nat_cmp) };
+
+    ghost laws = { partial_order_from_own_ties (Prim.search (comparing, rules)) (Prim.search (comparing, rules)) };
+
+    fn partial_cmp(&self, other: &RelPath) -> Option<Ordering> {
+        Some(self.cmp(other))
+    }
+}
+
+fn is_text(bytes: &[u8]) -> bool
+    ensures value { result ≡ is_utf8 bytes.now }
+    ensures valid { IsTrue result ↔ IsUtf8 bytes.now }
+{
+    str::from_utf8(bytes).is_ok()
 }
 
 fn joined_text(alloc: Global, folder: &str, below: &str) -> Result<String, OutOfMemory>
@@ -146,7 +206,7 @@ fn first_slash(bytes: &[u8]) -> Option<usize>
 }
 
 fn has_good_parts(bytes: &[u8]) -> bool
-    requires { length bytes.now ≤ 1024 }
+    requires { length bytes.now ≤ PATH_LIMIT }
     ensures { result ≡ list_all is_part (parts bytes.now) }
 {
     let mut rest = bytes;
@@ -166,20 +226,15 @@ fn has_no_zero(bytes: &[u8]) -> bool
 }
 
 fn is_relative(bytes: &[u8]) -> bool
-    ensures { IsTrue result ↔ IsRelative bytes.now }
+    ensures value { result ≡ is_relative bytes.now }
+    ensures valid { IsTrue result ↔ IsRelative bytes.now }
 {
-    if bytes.len() > 1024 {
-        return false;
-    }
-    if !has_no_zero(bytes) {
-        return false;
-    }
-    has_good_parts(bytes)
+    bytes.len() <= PATH_LIMIT && has_no_zero(bytes) && has_good_parts(bytes)
 }
 
 // Whether the parts are good, but for the last one, which more bytes can make good.
 fn has_good_ends(front: &[u8]) -> bool
-    requires { length front.now ≤ 1024 }
+    requires { length front.now ≤ PATH_LIMIT }
     ensures { result ≡ list_all is_part (parts (front.now ++ 97 ∷ [])) }
 {
     let mut rest = front;
@@ -197,10 +252,10 @@ fn text_begins(front: &[u8]) -> bool
     requires text { IsUtf8 front.now }
     requires no_zero { list_all is_not_zero front.now ≡ true }
     requires ends { list_all is_part (parts (front.now ++ 97 ∷ [])) ≡ true }
-    requires short { length front.now ≤ 1024 }
+    requires short { length front.now ≤ PATH_LIMIT }
     ensures { IsTrue result ↔ Begins IsPath front.now }
 {
-    if front.len() < 1024 {
+    if front.len() < PATH_LIMIT {
         return true;
     }
     has_good_parts(front)
@@ -211,11 +266,11 @@ fn cut_begins(front: &[u8], whole: usize) -> bool
     requires valid { IsValidUpTo front.now whole }
     requires no_zero { list_all is_not_zero front.now ≡ true }
     requires ends { list_all is_part (parts (front.now ++ 97 ∷ [])) ≡ true }
-    requires short { length front.now ≤ 1024 }
+    requires short { length front.now ≤ PATH_LIMIT }
     ensures { IsTrue result ↔ Begins IsPath front.now }
 {
     match missing(&front[whole..]) {
-        Some(rest) => rest <= 1024 - front.len(),
+        Some(rest) => rest <= PATH_LIMIT - front.len(),
         None => false,
     }
 }
@@ -223,7 +278,7 @@ fn cut_begins(front: &[u8], whole: usize) -> bool
 fn begins_path(front: &[u8]) -> bool
     ensures { IsTrue result ↔ Begins IsPath front.now }
 {
-    if front.len() > 1024 {
+    if front.len() > PATH_LIMIT {
         return false;
     }
     if !has_no_zero(front) {

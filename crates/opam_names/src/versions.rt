@@ -1,10 +1,14 @@
 // Versions of packages.
 ghost use Rattle.std.specs.Prelude.{◌≡◌, ◌<◌, ◌^◌, ◌==◌, ◌↔◌, IfOk, IfErr, IsTrue, length, string_bytes};
 ghost use Rattle.std.specs.List.{list_all, take_while};
-ghost use Rattle.opam_names.specs.Names.{IsVersion, is_version_byte};
+ghost use Rattle.std.proofs.Common.{rules};
+ghost use Rattle.std.specs.Cmp.Rules.{comparing};
+ghost use Rattle.std.specs.Str.{bytes_eq};
+ghost use Rattle.opam_names.specs.Names.{IsVersion, is_version, is_version_byte};
 ghost use Rattle.opam_names.specs.Orders.{text_order};
 ghost use Rattle.opam_names.specs.Faults.{IsFaultOf, IsLongestBegin};
 
+use crate::limits::VERSION_LIMIT;
 use crate::names::name_byte;
 use crate::order::text_order;
 use crate::{OutOfMemory, ReadFault};
@@ -12,8 +16,8 @@ use std::alloc::Global;
 use std::cmp::Ordering;
 use std::marker::Model;
 
-/// The version of a package: a text of letters, digits, `-`, `_`, `+`, `.` and `~`, not empty, at most 120 bytes (opam
-/// manual, file format: version ordering).
+/// The version of a package: a text of letters, digits, `-`, `_`, `+`, `.` and `~`, not empty, at most
+/// [`VERSION_LIMIT`] bytes (opam manual, file format: version ordering).
 #[derive(Drop)]
 pub struct Version {
     inner: String,
@@ -34,13 +38,21 @@ impl Model for Version {
 }
 
 impl Version {
+    /// Whether the bytes are a version.
+    pub fn is_version(bytes: &[u8]) -> bool
+        ensures value { result ≡ is_version bytes.now }
+        ensures valid { IsTrue result ↔ IsVersion bytes.now }
+    {
+        all_version_bytes(bytes) && !bytes.is_empty() && bytes.len() <= VERSION_LIMIT
+    }
+
     pub fn read(alloc: Global, bytes: &[u8]) -> Result<Version, ReadFault>
         requires { length bytes.now < 2 ^ 32 }
         ensures ok { IfOk result (λ version. version ≡ bytes.now) }
         ensures valid { IfOk result (λ version. IsVersion version) }
         ensures err { IfErr result (λ fault. IsFaultOf IsVersion bytes.now fault) }
     {
-        if !is_version(bytes) {
+        if !Version::is_version(bytes) {
             return Err(ReadFault::Bad {
                 at: version_end(bytes) as u32,
             });
@@ -77,6 +89,21 @@ impl Version {
     }
 }
 
+// Versions are the same where their texts are: `1.0` and `1.00` are two.
+impl PartialEq for Version {
+    ghost eq = { bytes_eq };
+
+    ghost laws = { Prim.search (comparing, rules) };
+
+    fn eq(&self, other: &Version) -> bool {
+        self.inner.as_str() == other.inner.as_str()
+    }
+}
+
+impl Eq for Version {
+    ghost laws = { Prim.search (comparing, rules) };
+}
+
 fn version_byte(byte: u8) -> bool
     ensures { result ≡ is_version_byte byte }
 {
@@ -87,18 +114,6 @@ fn all_version_bytes(bytes: &[u8]) -> bool
     ensures { result ≡ list_all is_version_byte bytes.now }
 {
     bytes.iter().all(|b| version_byte(*b))
-}
-
-fn is_version(bytes: &[u8]) -> bool
-    ensures { IsTrue result ↔ IsVersion bytes.now }
-{
-    if !all_version_bytes(bytes) {
-        return false;
-    }
-    if bytes.is_empty() {
-        return false;
-    }
-    bytes.len() <= 120
 }
 
 // How many bytes of the front are those of versions.
@@ -113,5 +128,9 @@ fn version_end(bytes: &[u8]) -> usize
     ensures { IsLongestBegin IsVersion bytes.now result }
 {
     let run = version_run(bytes);
-    if run < 120 { run } else { 120 }
+    if run < VERSION_LIMIT {
+        run
+    } else {
+        VERSION_LIMIT
+    }
 }
