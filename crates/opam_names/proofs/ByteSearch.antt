@@ -1,9 +1,11 @@
 -- Searches by halves in lists in the byte order of a key, and the test whether keys rise.
-use Rattle.std.proofs.Common.{◌≡◌, ℕ, zero, suc, ◌+◌, ◌<◌, ◌≤◌, List, [], ◌∷◌, map, length, get_or, Bool, true, false, cond, not, Option, Some, None, IsTrue, refl, sym, ◌∙◌, ap, subst, arith, lt-ltb, le-ltb}
+use Rattle.std.proofs.Common.{◌≡◌, ℕ, zero, suc, ◌+◌, ◌<◌, ◌≤◌, List, [], ◌∷◌, map, length, get_or, Bool, true, false, cond, not, ◌||◌, Option, Some, None, IsTrue, refl, sym, ◌∙◌, ap, subst, arith, lt-ltb, le-ltb}
 use Rattle.std.specs.Prelude.{bytes_eq, nat_lt}
-use Rattle.std.specs.List.{AllByRecursion, AllWithin, IsAllAdjacentAnswer, prefix_len}
+use Rattle.std.specs.List.{AllByRecursion, AllWithin, IsAllAdjacentAnswer, list_any, prefix_len}
 use Rattle.std.specs.List.Sorted.{IsPartitionedBy, IsStrictlySortedBy}
+use Rattle.std.specs.Option.{is_some}
 use Rattle.std.specs.Ordering.{is_lt}
+use Rattle.std.proofs.lemmas.Bool.Decides.{nat_tests}
 use Rattle.std.proofs.lemmas.Bool.{false≢true}
 use Rattle.std.proofs.lemmas.Cmp.{nat_list_cmp_total}
 use Rattle.std.proofs.lemmas.List.{get_or-map, get_or_default, length-map}
@@ -23,6 +25,9 @@ front_is p (x ∷ xs) (suc i) low passes stays =
 
 not_below_itself : (n : ℕ) → nat_lt n n ≡ false
 not_below_itself n = le-ltb n n (omega arith)
+
+one_more : (n m : ℕ) → nat_lt (1 + n) (suc m) ≡ nat_lt n m
+one_more n m = grind (arith, nat_tests)
 
 past : (n m : ℕ) → n ≡ m → n < m → ⊥
 past n m same less = omega arith
@@ -167,3 +172,20 @@ module _ {X : Type 0} (key : X → List ℕ) where
 
   pub find_past : (bytes : List ℕ) (xs : List X) (i : ℕ) → NeverFallsBy key xs → i ≡ count_before key bytes xs → i ≡ length xs → None ≡ place_of_key key bytes xs
   find_past bytes xs i up at last = sym (place_missing bytes xs (found_none bytes xs up (λ d less. absurd (past (count_before key bytes xs) (length xs) (sym at ∙ last) less))))
+
+  -- a list has a place with the key exactly where some element has it
+  any_by : (bytes : List ℕ) (xs : List X) → nat_lt (prefix_len (other_than bytes) xs) (length xs) ≡ list_any (has_key key bytes) xs
+  any_by bytes [] = refl
+  any_by bytes (x ∷ xs) = by (bytes_eq (key x) bytes) (any_by bytes xs)
+    where
+      by : (b : Bool) → nat_lt (prefix_len (other_than bytes) xs) (length xs) ≡ list_any (has_key key bytes) xs
+          → nat_lt (cond (not b) (1 + prefix_len (other_than bytes) xs) 0) (suc (length xs)) ≡ (b || list_any (has_key key bytes) xs)
+      by true later = lt-ltb 0 (suc (length xs)) (omega arith)
+      by false later = one_more (prefix_len (other_than bytes) xs) (length xs) ∙ later
+
+  some_by : (b : Bool) (n : ℕ) → is_some (cond b (Some n) None) ≡ b
+  some_by true n = refl
+  some_by false n = refl
+
+  pub place_says : (bytes : List ℕ) (xs : List X) → is_some (place_of_key key bytes xs) ≡ list_any (has_key key bytes) xs
+  place_says bytes xs = some_by (nat_lt (prefix_len (other_than bytes) xs) (length xs)) (prefix_len (other_than bytes) xs) ∙ any_by bytes xs

@@ -1,9 +1,25 @@
 -- Laws of lists in the byte order of a key.
-use Rattle.std.specs.Prelude.{◌≡◌, ℕ, List, [], ◌∷◌, ◌++◌, map, Bool, bytes_eq, filter, Contains}
-use Rattle.std.specs.List.{IsDistinct, list_any}
-use Rattle.std.specs.List.Sorted.{IsPermutation}
+use Rattle.std.specs.Prelude.{◌≡◌, ℕ, List, [], ◌∷◌, ◌++◌, map, Bool, false, bytes_eq, filter, Contains}
+use Rattle.std.specs.List.{AllByRecursion, IsDistinct, list_any}
+use Rattle.std.specs.List.Sorted.{IsPermutation, IsStrictlySortedBy}
+use Rattle.std.specs.Ordering.{is_lt, ordering_reverse}
 use Rattle.std.specs.declared.cmp.Ordering.TheVariants.{Less}
-use Rattle.opam_names.specs.ByteOrders.{NeverFallsBy, RisesBy, byte_order, each_once, first_of_each_by, has_key, in_order_by}
+use Rattle.std.proofs.Common.{ap, ◌∙◌}
+use Rattle.std.proofs.lemmas.Cmp.{nat_list_cmp_total}
+use Rattle.opam_names.specs.ByteOrders.{NeverFallsBy, RisesBy, precedes, byte_order, each_once, first_of_each_by, has_key, in_order_by}
+
+turned : (a b : List ℕ) → byte_order a b ≡ Less → precedes b a ≡ false
+turned a b is = ap is_lt (nat_list_cmp_total.antisymm b a ∙ ap ordering_reverse is)
+
+all_turned : {X : Type 0} (key : X → List ℕ) (x : X) (xs : List X) → AllByRecursion (λ y. byte_order (key x) y ≡ Less) (map key xs) → AllByRecursion (λ y. precedes (key y) (key x) ≡ false) xs
+all_turned key x [] all = tt
+all_turned key x (y ∷ xs) all = (turned (key x) (key y) all.0, all_turned key x xs all.1)
+
+-- keys that rise never fall
+pub NeverFallsBy-from_rises : {X : Type 0} (key : X → List ℕ) (xs : List X) → RisesBy key xs → NeverFallsBy key xs
+unfolding IsStrictlySortedBy
+NeverFallsBy-from_rises key [] rises = tt
+NeverFallsBy-from_rises key (x ∷ xs) rises = (all_turned key x xs rises.0, NeverFallsBy-from_rises key xs rises.1)
 
 -- of lists that rise: a part rises, and so do the elements that pass a test; an earlier key precedes a later one; and a list
 -- that rises is given by its members

@@ -1,6 +1,7 @@
 // Lists in the byte order of a key.
 ghost use Rattle.std.specs.Prelude.{◌≡◌, ◌↔◌, IsTrue, ◌≤◌, OnErr, OnOk, length};
-ghost use Rattle.opam_names.specs.ByteOrders.{NeverFallsBy, RisesBy, count_before, first_of_each_by, in_order_by, place_of_key};
+ghost use Rattle.std.specs.List.{list_any};
+ghost use Rattle.opam_names.specs.ByteOrders.{NeverFallsBy, RisesBy, count_before, first_of_each_by, has_key, in_order_by, place_of_key};
 
 use crate::{Name, OutOfMemory, Pkg, RelPath, Text};
 
@@ -93,4 +94,12 @@ pub fn find_by_bytes<T: ByteKey>(items: &[T], key: &[u8]) -> Option<usize>
     } else {
         None
     }
+}
+
+/// Whether an element has this key, found by halves. The elements stand in the byte order of their keys.
+pub fn has_bytes<T: ByteKey>(items: &[T], key: &[u8]) -> bool
+    requires { NeverFallsBy T.key items.now }
+    ensures { result ≡ list_any (has_key T.key key.now) items.now }
+{
+    find_by_bytes(items, key).is_some()
 }

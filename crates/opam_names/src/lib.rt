@@ -18,7 +18,8 @@ mod versions;
 
 pub use buffer::Buffer;
 pub use byte_order::{
-    ByteKey, count_before_bytes, find_by_bytes, keep_first_of_each, rises_by_bytes, sort_by_bytes,
+    ByteKey, count_before_bytes, find_by_bytes, has_bytes, keep_first_of_each, rises_by_bytes,
+    sort_by_bytes,
 };
 pub use fault::{OutOfMemory, ReadFault};
 pub use items::Items;
