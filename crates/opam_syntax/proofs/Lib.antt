@@ -15,3 +15,9 @@ pub mod PrintJoined
 pub mod PrintWords
 pub mod PrintNumbers
 pub mod PrintTokens
+pub mod PrintTexts
+pub mod Placeless
+pub mod PrintValues
+pub mod PrintFiles
+pub mod PrintNames
+pub mod PrintLaw

@@ -10,7 +10,8 @@ use Rattle.std.specs.Fmt.{signed_decimal}
 use Rattle.opam_names.proofs.Bytes.{both_left, both_right}
 use Rattle.opam_names.specs.Orders.{number}
 use Rattle.opam_syntax.specs.declared.token.Token.{Token}
-use Rattle.opam_syntax.specs.declared.token.Token.TheVariants.{Int, Plain, Scoped}
+use Rattle.opam_syntax.specs.declared.token.Token.TheVariants.{Int, Plain, Scoped, Update}
+use Rattle.opam_syntax.specs.declared.tree.EnvOp.TheVariants.{Set, Before, After, BeforeKeep, AfterKeep}
 use Rattle.opam_syntax.specs.Words.{is_word_byte, word_of, word_token, are_digits, natural_of, negative_of, int_of, before, after, is_plain, is_scoped, is_scope_part, scope_parts, identifier_of, int_or_identifier}
 use Rattle.opam_names.specs.Names.{is_letter}
 use Rattle.opam_syntax.specs.Signs.{signs, sign_among, begins_with}
@@ -18,11 +19,12 @@ use Rattle.opam_syntax.specs.Tokens.{First, Single, first, is_blank, after_comme
 use Rattle.opam_syntax.proofs.PrintWords.{Reads, word_reads}
 use Rattle.opam_syntax.proofs.PrintNumbers.{InRange, integer_reads}
 
--- a word reads back as the token
+-- a word reads back as the token; `=` is a relation and no update
 abbrev pub IsToken : Token → Type 0
 IsToken (Int n) = Reads (signed_decimal n) (Int n)
 IsToken (Plain name) = Reads name (Plain name)
 IsToken (Scoped scope name) = Reads (scope ++ codes ":" ++ name) (Scoped scope name)
+IsToken (Update Set) = ⊥
 IsToken token = ⊤
 
 abbrev pub AreRead : List Placed → Type 0
@@ -38,6 +40,7 @@ abbrev Says : List ℕ → Token → Type 0
 Says word (Int n) = InRange n
 Says word (Plain name) = name ≡ word
 Says word (Scoped scope name) = scope ++ codes ":" ++ name ≡ word
+Says word (Update Set) = ⊥
 Says word token = ⊤
 
 abbrev SaysIf : List ℕ → Option Token → Type 0
@@ -103,6 +106,11 @@ word_is_token : (word : List ℕ) (token : Token) → Reads word token → Says 
 word_is_token word (Int n) r s = integer_reads n s
 word_is_token word (Plain name) r s = subst (λ w. Reads w (Plain name)) (sym s) r
 word_is_token word (Scoped scope name) r s = subst (λ w. Reads w (Scoped scope name)) (sym s) r
+word_is_token word (Update Set) r s = s
+word_is_token word (Update Before) r s = tt
+word_is_token word (Update After) r s = tt
+word_is_token word (Update BeforeKeep) r s = tt
+word_is_token word (Update AfterKeep) r s = tt
 word_is_token word token r s = tt
 
 -- a token that stands first
@@ -123,12 +131,18 @@ abbrev is_sign : Token → Bool
 is_sign (Int n) = false
 is_sign (Plain name) = false
 is_sign (Scoped scope name) = false
+is_sign (Update Set) = false
 is_sign token = true
 
 sign_is_token : (token : Token) → is_sign token ≡ true → IsToken token
 sign_is_token (Int n) h = absurd cc
 sign_is_token (Plain name) h = absurd cc
 sign_is_token (Scoped scope name) h = absurd cc
+sign_is_token (Update Set) h = absurd cc
+sign_is_token (Update Before) h = tt
+sign_is_token (Update After) h = tt
+sign_is_token (Update BeforeKeep) h = tt
+sign_is_token (Update AfterKeep) h = tt
 sign_is_token token h = tt
 
 sign_holds : (table : List (List ℕ × Token)) (bytes : List ℕ) → list_all (λ s. is_sign s.1) table ≡ true → Holds (sign_first (sign_among table bytes))

@@ -13,3 +13,4 @@ pub mod Spans
 pub mod Samples
 pub mod Rows
 pub mod Laws
+pub mod Printed

@@ -5,6 +5,7 @@ mod fault;
 mod file;
 mod laws;
 mod printing;
+mod printing_laws;
 mod rows;
 mod token;
 mod tree;
@@ -15,5 +16,6 @@ pub use laws::{
     files_have_no_fault, one_derivation, one_fault_for_bytes, one_tree_for_bytes, spans_are_within,
 };
 pub use printing::print_file;
+pub use printing_laws::printing_reads_back;
 pub use rows::{rows_are_faulty, rows_are_spelled, sample_is_printed, values_are_printed};
 pub use tree::{EnvOp, Node, RelOp, Span, Value, Var};
