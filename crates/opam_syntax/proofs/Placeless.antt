@@ -6,9 +6,9 @@ use Rattle.opam_syntax.specs.declared.tree.Span.{Span}
 use Rattle.opam_syntax.specs.declared.tree.Value.{Value, roll-Value}
 use Rattle.opam_syntax.specs.declared.tree.Value.TheBlock.{the_family, member-Value, member-Node}
 use Rattle.opam_syntax.specs.declared.tree.Value.TheOpen.{Value-F, Node-F}
-use Rattle.opam_syntax.specs.declared.tree.Value.TheFolds.{fold-Node, fold-Value, fold-roll-Node, fold-roll-Value, ind-Node, map-Value, map-Node, claims}
-use Rattle.opam_syntax.specs.Nesting.{depth, layer_depth, node_depth}
-use Rattle.opam_syntax.specs.Spelling.{value_text, layer_text, node_text}
+use Rattle.opam_syntax.specs.declared.tree.Value.TheFolds.{fold-Node, fold-Value, fold-roll-Node, fold-roll-Value, ind-Node, map-Value, claims}
+use Rattle.opam_syntax.specs.Nesting.{depth, layer_depth}
+use Rattle.opam_syntax.specs.Spelling.{value_text, layer_text}
 use Rattle.opam_syntax.specs.Printed.{placeless, placeless_layer}
 use Rattle.opam_syntax.proofs.Folds.{node_at, fold_node}
 

@@ -1,22 +1,22 @@
 -- Items that some tokens spell are spelled by their canonical text as well.
-use Rattle.std.proofs.Common.{◌≡◌, ℕ, Bool, true, false, List, [], ◌∷◌, ◌++◌, refl, sym, ap, ◌∙◌}
+use Rattle.std.proofs.Common.{◌≡◌, ℕ, true, false, List, [], ◌∷◌, ◌++◌, refl, sym, ap, ◌∙◌}
 use Rattle.std.specs.Prelude.{codes}
 use Rattle.std.proofs.lemmas.List.{append_assoc}
 use Rattle.std.specs.declared.option.Option.TheVariants.{None, Some}
 use Rattle.opam_syntax.specs.declared.file.Key.{Key}
-use Rattle.opam_syntax.specs.declared.token.Token.TheVariants.{Plain, Text, Colon, OpenBraces, CloseBraces}
+use Rattle.opam_syntax.specs.declared.token.Token.TheVariants.{Plain, Colon}
 use Rattle.opam_syntax.specs.declared.tree.Node.{Node}
 use Rattle.opam_syntax.specs.declared.tree.Span.{Span}
-use Rattle.opam_syntax.specs.Tokens.{Placed, placed, AreTokens, ends, gap, single, text}
+use Rattle.opam_syntax.specs.Tokens.{Placed, placed, AreTokens, ends, gap, single}
 use Rattle.opam_syntax.specs.Grammar.{ValueLevel, Spells, begins_relation}
-use Rattle.opam_syntax.specs.Files.{Contents, FieldContents, SectionContents, Entry, field_entry, section_entry, AreFields, no_field, field, AreEntries, no_entry, field_next, section_next, labelled_next}
-use Rattle.opam_syntax.specs.Spelling.{value_text, quoted, field_text, fields_text, item_text, items_text}
+use Rattle.opam_syntax.specs.Files.{Contents, FieldContents, SectionContents, Entry, field_entry, AreFields, no_field, field, AreEntries, no_entry, field_next, section_next, labelled_next}
+use Rattle.opam_syntax.specs.Spelling.{value_text, quoted, field_text, fields_text, items_text}
 use Rattle.opam_syntax.specs.Trees.{told_items}
-use Rattle.opam_syntax.specs.Printed.{placeless, placeless_fields, placeless_contents, placeless_items}
+use Rattle.opam_syntax.specs.Printed.{placeless, placeless_fields, placeless_items}
 use Rattle.opam_syntax.proofs.PrintWords.{Reads, reads_first}
 use Rattle.opam_syntax.proofs.PrintTexts.{text_reads}
 use Rattle.opam_syntax.proofs.PrintTokens.{AreRead}
-use Rattle.opam_syntax.proofs.PrintValues.{at_line, read_after, Again, again, other_text}
+use Rattle.opam_syntax.proofs.PrintValues.{at_line, read_after, again, other_text}
 use Rattle.opam_syntax.proofs.Placeless.{two_same}
 
 -- a field on a line of its own, before other text

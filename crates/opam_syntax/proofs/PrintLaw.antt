@@ -1,7 +1,6 @@
 -- The canonical spelling of a file spells its items again.
 use Rattle.std.proofs.Common.{◌≡◌, ℕ, ◌+◌, ◌-◌, ◌≤◌, List, [], ◌∷◌, ◌++◌, length, map, max, refl, sym, ap, subst, ◌∙◌, arith}
 use Rattle.std.specs.Prelude.{codes}
-use Rattle.opam_syntax.specs.declared.file.File.{File}
 use Rattle.opam_syntax.specs.declared.file.Key.{Key}
 use Rattle.opam_syntax.specs.declared.tree.Node.{Node}
 use Rattle.opam_syntax.specs.Tokens.{AreTokens}
@@ -14,7 +13,7 @@ use Rattle.opam_syntax.proofs.OneFile.{one_derivation}
 use Rattle.opam_syntax.proofs.Spanned.{InOrder, in_order}
 use Rattle.opam_syntax.proofs.Placeless.{depth_placeless, text_placeless, two_same}
 use Rattle.opam_syntax.proofs.PrintTokens.{are_read}
-use Rattle.opam_syntax.proofs.PrintFiles.{EntriesAgain, entries_again}
+use Rattle.opam_syntax.proofs.PrintFiles.{entries_again}
 use Rattle.opam_syntax.proofs.PrintNames.{single_too}
 
 -- depths and texts look at no place
@@ -59,7 +58,7 @@ shallow_too : (entries found : List Entry) → placeless_items (told_items found
     → most (map (λ entry. contents_depth entry.contents) entries) ≤ 64 → most (map (λ entry. contents_depth entry.contents) found) ≤ 64
 shallow_too entries found same l =
     let e : most (map (λ entry. contents_depth entry.contents) found) ≡ most (map (λ entry. contents_depth entry.contents) entries) =
-        told_depth found ∙ sym (items_depth_placeless (told_items found)) ∙ ap items_depth same ∙ items_depth_placeless (told_items entries) ∙ sym (told_depth entries) in
+    told_depth found ∙ sym (items_depth_placeless (told_items found)) ∙ ap items_depth same ∙ items_depth_placeless (told_items entries) ∙ sym (told_depth entries) in
     subst (λ n. n ≤ 64) (sym e) l
 
 pub printed_is_spelled : PrintedIsSpelled
@@ -67,17 +66,20 @@ printed_is_spelled bytes file (entries, s, has) =
     let total = length (file_text file) in
     let a = entries_again s.derived.2 (are_read s.derived.1) total in
     let tokens : AreTokens total (file_text file) a.tokens = subst (λ b. AreTokens total b a.tokens) (sym (ap items_text has.items)) a.spelled in
-    let o : InOrder total (total - total) a.tokens = in_order tokens (omega arith) in
-    (a.found, record {
-      derived = (a.tokens, tokens, a.derived);
-      shallow = shallow_too entries a.found a.same s.shallow;
-      single = single_too s.derived.2 s.single a.derived total (total - total) o a.same;
-    }, a.same ∙ ap placeless_items (sym has.items))
+    let o : InOrder total (total - total) a.tokens = in_order tokens (omega arith) in (
+      a.found,
+      record {
+        derived = (a.tokens, tokens, a.derived);
+        shallow = shallow_too entries a.found a.same s.shallow;
+        single = single_too s.derived.2 s.single a.derived total (total - total) o a.same;
+      },
+      a.same ∙ ap placeless_items (sym has.items),
+    )
 
 pub printed_is_read_back : PrintedIsReadBack
 printed_is_read_back bytes file other t (entries, s, has) =
     let p = printed_is_spelled bytes file t in
     let one : p.0 ≡ entries = one_derivation (file_text file) p.0 entries p.1.derived s.derived in
     let same : placeless_items (items_of other) ≡ placeless_items (items_of file) =
-        ap placeless_items has.items ∙ ap (λ es. placeless_items (told_items es)) (sym one) ∙ p.2 in
+    ap placeless_items has.items ∙ ap (λ es. placeless_items (told_items es)) (sym one) ∙ p.2 in
     (same, sym (items_text_placeless (items_of other)) ∙ ap items_text same ∙ items_text_placeless (items_of file))

@@ -1,21 +1,19 @@
 -- Whether a name comes twice does not depend on the places.
-use Rattle.std.proofs.Common.{◌≡◌, ℕ, ◌<◌, ◌≤◌, ◌+◌, Bool, true, false, not, ◌&&◌, ◌||◌, ◌==◌, List, [], ◌∷◌, ◌++◌, if◌then◌else◌, refl, sym, ap, subst, ◌∙◌, map, max, arith}
+use Rattle.std.proofs.Common.{◌≡◌, ℕ, ◌≤◌, ◌+◌, Bool, true, false, not, ◌&&◌, ◌||◌, ◌==◌, List, [], ◌∷◌, ◌++◌, if◌then◌else◌, refl, sym, ap, ◌∙◌, arith}
 use Rattle.std.specs.Prelude.{bytes_eq}
 use Rattle.std.specs.List.{list_any}
 use Rattle.std.proofs.lemmas.Bool.{eq-eqb, ne_eqb}
-use Rattle.std.specs.declared.option.Option.{Option}
 use Rattle.std.specs.declared.option.Option.TheVariants.{None, Some}
 use Rattle.opam_names.proofs.Bytes.{both_left, both_right}
 use Rattle.opam_syntax.specs.declared.file.Key.{Key}
 use Rattle.opam_syntax.specs.declared.tree.Node.{Node}
-use Rattle.opam_syntax.specs.declared.tree.Span.{Span}
-use Rattle.opam_syntax.specs.Tokens.{Placed, placed}
+use Rattle.opam_syntax.specs.Tokens.{Placed}
 use Rattle.opam_syntax.specs.Files.{Contents, FieldContents, SectionContents, Entry, AreFields, no_field, field, AreEntries, no_entry, field_next, section_next, labelled_next}
-use Rattle.opam_syntax.specs.Doubles.{Name, ItemName, FieldName, key_eq, name_eq, field_names, inner_names, names, first_doubled, doubled_at}
+use Rattle.opam_syntax.specs.Doubles.{Name, ItemName, FieldName, key_eq, name_eq, field_names, names, first_doubled, doubled_at}
 use Rattle.opam_syntax.specs.Trees.{told_items}
-use Rattle.opam_syntax.specs.Printed.{placeless, placeless_fields, placeless_contents, placeless_items}
+use Rattle.opam_syntax.specs.Printed.{placeless_fields, placeless_contents, placeless_items}
 use Rattle.opam_syntax.proofs.PrintWords.{skip}
-use Rattle.opam_syntax.proofs.Spanned.{InOrder, both, Lies, lies, sooner}
+use Rattle.opam_syntax.proofs.Spanned.{InOrder, both, lies}
 
 abbrev names_of : List (List ℕ × Node) → List (List ℕ)
 names_of [] = []
@@ -95,9 +93,9 @@ fields_free no_field section seen before keys rest a b e = record { free = refl;
 fields_free (field {name = name} {from = from} {fields = fields} {places = places} q s) section seen before keys rest a b e =
     let p = passed before (FieldName section name, from.start) (field_names section fields places ++ rest) e in
     let more = fields_free s section (name ∷ seen) (FieldName section name ∷ before) keys rest
-        (λ n h. or_cases (bytes_eq n name) (list_any (bytes_eq n) seen) (name_eq (FieldName section n) (FieldName section name)) (list_any (name_eq (FieldName section n)) before)
-            (in_section section n name) (a n) h)
-        b p.1 in
+    (λ n h. or_cases (bytes_eq n name) (list_any (bytes_eq n) seen) (name_eq (FieldName section n) (FieldName section name)) (list_any (name_eq (FieldName section n)) before)
+    (in_section section n name) (a n) h)
+    b p.1 in
     record {
       free = both (not (list_any (bytes_eq name) seen)) (names_free (name ∷ seen) (names_of fields))
           (not_any (list_any (bytes_eq name) seen) (list_any (name_eq (FieldName section name)) before) (a name) p.0) more.free;
@@ -181,9 +179,9 @@ fields_pass (f ∷ fields) (place ∷ places) section seen before keys rest a b 
     let here = both_left (not (list_any (bytes_eq f.0) seen)) (names_free (f.0 ∷ seen) (names_of fields)) e in
     let next = both_right (not (list_any (bytes_eq f.0) seen)) (names_free (f.0 ∷ seen) (names_of fields)) e in
     let more = fields_pass fields places section (f.0 ∷ seen) (FieldName section f.0 ∷ before) keys rest
-        (λ n h. or_cases (name_eq (FieldName section n) (FieldName section f.0)) (list_any (name_eq (FieldName section n)) before) (bytes_eq n f.0) (list_any (bytes_eq n) seen)
-            (in_names section n f.0) (a n) h)
-        b (λ s n l. neither_of (name_eq (FieldName s n) (FieldName section f.0)) (list_any (name_eq (FieldName s n)) before) (other_section s section n f.0 l) (c s n l)) next in
+    (λ n h. or_cases (name_eq (FieldName section n) (FieldName section f.0)) (list_any (name_eq (FieldName section n)) before) (bytes_eq n f.0) (list_any (bytes_eq n) seen)
+    (in_names section n f.0) (a n) h)
+    b (λ s n l. neither_of (name_eq (FieldName s n) (FieldName section f.0)) (list_any (name_eq (FieldName s n)) before) (other_section s section n f.0 l) (c s n l)) next in
     record {
       later = more.later;
       goes_on = skip _ _ _ (none_of (list_any (bytes_eq f.0) seen) (list_any (name_eq (FieldName section f.0)) before) (a f.0) here) ∙ more.goes_on;
@@ -230,7 +228,7 @@ section_passes : (section place : ℕ) (key : Key) (fields : List (List ℕ × N
     → FieldsPass section before ((ItemName key, section) ∷ field_names section fields places) (key ∷ keys) rest
 section_passes section place key fields places before keys rest l b c e f =
     let p = fields_pass fields places section [] (ItemName key ∷ before) (key ∷ keys) rest (λ n h. absurd (is_none (list_any (name_eq (FieldName section n)) before) (c section n l) h))
-        (more_keys key keys before b) (λ s n m. c s n (omega arith)) f in
+    (more_keys key keys before b) (λ s n m. c s n (omega arith)) f in
     record { later = p.later; goes_on = skip _ _ _ (key_new key keys before b e) ∙ p.goes_on; keeps = p.keeps; none = p.none }
 
 entries_pass : {tokens : List Placed} {entries : List Entry} → AreEntries tokens entries → (total place : ℕ) → InOrder total place tokens → (before : List Name) (keys : List Key)
@@ -242,13 +240,13 @@ entries_pass (field_next {name = name} {from = from} {at = at} {value = v} {entr
     let d = o.0 in let f = o.1 in let g = o.2.0 in let h = o.2.1 in let i = a.from in let j = a.some in
     skip _ _ _ (key_new key keys before b (free_key key keys (FieldContents v) (told_items entries) e))
     ∙ entries_pass s total v.span.end a.after (ItemName key ∷ before) (key ∷ keys) (more_keys key keys before b) (λ t n l. c t n (omega arith))
-      (free_items key keys (FieldContents v) (told_items entries) e)
+    (free_items key keys (FieldContents v) (told_items entries) e)
 entries_pass (section_next {name = name} {from = from} {at = at} {to = to} {fields = fields} {places = places} {entries = entries} q s) total place o before keys b c e =
     let key : Key = record { name = name; section = true; label = None } in
     let z = fields_end q total at.end o.2.2 in
     let d = o.0 in let f = o.1 in let g = o.2.0 in let h = o.2.1 in let i = z.1 in let j = z.2.0 in let m = z.2.1 in
     let p = section_passes from.start place key fields places before keys (names entries) d b c (free_key key keys (SectionContents fields) (told_items entries) e)
-        (free_names key keys (SectionContents fields) (told_items entries) e) in
+    (free_names key keys (SectionContents fields) (told_items entries) e) in
     p.goes_on
     ∙ entries_pass s total to.end z.2.2 p.later (key ∷ keys) p.keeps (λ t n l. p.none t n (omega arith)) (free_items key keys (SectionContents fields) (told_items entries) e)
 entries_pass (labelled_next {name = name} {label = label} {from = from} {by = by} {at = at} {to = to} {fields = fields} {places = places} {entries = entries} q s) total place o before keys b c e =
@@ -256,7 +254,7 @@ entries_pass (labelled_next {name = name} {label = label} {from = from} {by = by
     let z = fields_end q total at.end o.2.2.2 in
     let d = o.0 in let f = o.1 in let g = o.2.0 in let h = o.2.1 in let u = o.2.2.0 in let w = o.2.2.1 in let i = z.1 in let j = z.2.0 in let m = z.2.1 in
     let p = section_passes from.start place key fields places before keys (names entries) d b c (free_key key keys (SectionContents fields) (told_items entries) e)
-        (free_names key keys (SectionContents fields) (told_items entries) e) in
+    (free_names key keys (SectionContents fields) (told_items entries) e) in
     p.goes_on
     ∙ entries_pass s total to.end z.2.2 p.later (key ∷ keys) p.keeps (λ t n l. p.none t n (omega arith)) (free_items key keys (SectionContents fields) (told_items entries) e)
 
@@ -266,5 +264,5 @@ pub single_too : {old tokens : List Placed} {entries found : List Entry} → Are
 single_too {entries = entries} {found = found} p e q total place o same =
     let free : items_free [] (told_items entries) ≡ true = entries_free p [] [] (λ k h. absurd cc) e in
     let free_too : items_free [] (told_items found) ≡ true =
-        sym (placeless_free [] (told_items found)) ∙ ap (items_free []) same ∙ placeless_free [] (told_items entries) ∙ free in
+    sym (placeless_free [] (told_items found)) ∙ ap (items_free []) same ∙ placeless_free [] (told_items entries) ∙ free in
     entries_pass q total place o [] [] (λ k h. absurd cc) (λ s n l. refl) free_too

@@ -72,7 +72,7 @@ natural_reads n (d ∷ digits) l w =
     let value = w.value in
     let small : nat_lt (number (d ∷ digits)) (2 ^ 63) ≡ true = grind (arith, nat_tests) in
     let read : int_of (d ∷ digits) ≡ Some (pos (number (d ∷ digits))) =
-        skip _ _ _ (other_byte is_digit d 45 first_is refl) ∙ enter _ _ _ (both (are_digits (d ∷ digits)) (nat_lt (number (d ∷ digits)) (2 ^ 63)) w.some small) in
+    skip _ _ _ (other_byte is_digit d 45 first_is refl) ∙ enter _ _ _ (both (are_digits (d ∷ digits)) (nat_lt (number (d ∷ digits)) (2 ^ 63)) w.some small) in
     record {
       begins = word_digit d first_is;
       whole = digits_whole (d ∷ digits) w.some true;
@@ -86,7 +86,7 @@ negative_reads n (d ∷ digits) l w =
     let value = w.value in
     let small : nat_le (number (d ∷ digits)) (2 ^ 63) ≡ true = grind (arith, nat_tests) in
     let read : int_of (45 ∷ d ∷ digits) ≡ Some (negsuc n) =
-        enter _ _ _ (both (are_digits (d ∷ digits)) (nat_le (number (d ∷ digits)) (2 ^ 63)) w.some small) ∙ ap (λ m. Some (neg_ℤ (pos m))) value in
+    enter _ _ _ (both (are_digits (d ∷ digits)) (nat_le (number (d ∷ digits)) (2 ^ 63)) w.some small) ∙ ap (λ m. Some (neg_ℤ (pos m))) value in
     record {
       begins = refl;
       whole = ap (λ w. 45 ∷ w) (digits_whole (d ∷ digits) w.some true);

@@ -1,5 +1,5 @@
 -- A text reads back from its quoted spelling.
-use Rattle.std.proofs.Common.{◌≡◌, ℕ, ◌+◌, ◌*◌, ◌-◌, ◌/◌, ◌%◌, ◌<◌, ◌≤◌, Bool, true, false, ◌&&◌, ◌||◌, ◌==◌, List, [], ◌∷◌, ◌++◌, if◌then◌else◌, refl, sym, ap, subst, ◌∙◌, arith, ◌⊎◌, inl, inr}
+use Rattle.std.proofs.Common.{◌≡◌, ℕ, ◌+◌, ◌*◌, ◌-◌, ◌/◌, ◌%◌, ◌<◌, Bool, true, false, ◌&&◌, ◌||◌, ◌==◌, List, [], ◌∷◌, ◌++◌, if◌then◌else◌, refl, sym, ap, subst, ◌∙◌, arith, ◌⊎◌, inl, inr}
 use Rattle.std.specs.Prelude.{codes, nat_lt, nat_le}
 use Rattle.std.specs.List.{flat_map}
 use Rattle.std.proofs.lemmas.Bool.{eqb-true, ne_eqb}
@@ -9,8 +9,8 @@ use Rattle.opam_names.specs.Names.{is_digit}
 use Rattle.opam_syntax.specs.declared.token.Token.TheVariants.{Text}
 use Rattle.opam_syntax.specs.Signs.{begins_with}
 use Rattle.opam_syntax.specs.Spelling.{byte_text, decimal_escape, quoted}
-use Rattle.opam_syntax.specs.Texts.{Piece, Gives, NoPiece, piece, escape, decimal, IsInside, closes, gives}
-use Rattle.opam_syntax.specs.Tokens.{First, Quote, first, Placed, placed, span_between, AreTokens, text}
+use Rattle.opam_syntax.specs.Texts.{Gives, piece, IsInside, closes, gives}
+use Rattle.opam_syntax.specs.Tokens.{first, Placed, placed, span_between, AreTokens, text}
 use Rattle.opam_syntax.proofs.PrintWords.{skip, enter}
 use Rattle.opam_syntax.proofs.Spanned.{both}
 
@@ -43,7 +43,7 @@ escape_reads b rest l =
     let small : nat_le (100 * (x - 48) + 10 * (y - 48) + (z - 48)) 255 ≡ true = grind (arith, nat_tests) in
     enter _ _ _ one
     ∙ enter _ _ _ (both (is_digit x && is_digit y && is_digit z) (nat_le (100 * (x - 48) + 10 * (y - 48) + (z - 48)) 255)
-      (both (is_digit x && is_digit y) (is_digit z) (both (is_digit x) (is_digit y) one two) three) small)
+    (both (is_digit x && is_digit y) (is_digit z) (both (is_digit x) (is_digit y) one two) three) small)
     ∙ ap (λ n. Gives (n ∷ []) rest) value
 
 control_is_low : (b : ℕ) → (nat_lt b 32 || b == 127) ≡ true → b < 128
@@ -55,8 +55,9 @@ byte_reads b rest =
     let Reads : List ℕ → Type 0 = λ t. piece false (t ++ rest) ≡ Gives (b ∷ []) rest in
     either Reads (b == 92 || b == 34) _ _
     (λ h. elim (one_of (b == 92) (b == 34) h) [
-      inl e ↦ subst (λ c. piece false ((92 ∷ c ∷ []) ++ rest) ≡ Gives (c ∷ []) rest) (sym (eqb-true b 92 e)) refl
-      | inr e ↦ subst (λ c. piece false ((92 ∷ c ∷ []) ++ rest) ≡ Gives (c ∷ []) rest) (sym (eqb-true b 34 e)) refl ]) (λ n.
+      | inl e ↦ subst (λ c. piece false ((92 ∷ c ∷ []) ++ rest) ≡ Gives (c ∷ []) rest) (sym (eqb-true b 92 e)) refl
+      | inr e ↦ subst (λ c. piece false ((92 ∷ c ∷ []) ++ rest) ≡ Gives (c ∷ []) rest) (sym (eqb-true b 34 e)) refl
+    ]) (λ n.
     either Reads (b == 10) _ _ (λ e. subst (λ c. piece false (codes "\\n" ++ rest) ≡ Gives (c ∷ []) rest) (sym (eqb-true b 10 e)) refl) (λ _.
     either Reads (b == 9) _ _ (λ e. subst (λ c. piece false (codes "\\t" ++ rest) ≡ Gives (c ∷ []) rest) (sym (eqb-true b 9 e)) refl) (λ _.
     either Reads (b == 13) _ _ (λ e. subst (λ c. piece false (codes "\\r" ++ rest) ≡ Gives (c ∷ []) rest) (sym (eqb-true b 13 e)) refl) (λ _.

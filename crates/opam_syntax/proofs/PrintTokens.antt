@@ -64,7 +64,7 @@ minus_in_range : (digits : List ℕ) → InRangeIf (negative_of digits)
 minus_in_range digits =
     either InRangeIf (are_digits digits && nat_le (number digits) (2 ^ 63)) (Some (neg_ℤ (pos (number digits)))) None
     (λ h. let k : nat_le (number digits) (2 ^ 63) ≡ true = both_right (are_digits digits) (nat_le (number digits) (2 ^ 63)) h in
-        negative_in_range (number digits) (grind (arith, nat_tests))) (λ h. tt)
+    negative_in_range (number digits) (grind (arith, nat_tests))) (λ h. tt)
 
 integer_in_range : (word : List ℕ) → InRangeIf (int_of word)
 integer_in_range [] = tt

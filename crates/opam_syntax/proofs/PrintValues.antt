@@ -1,27 +1,25 @@
 -- A value that some tokens spell is spelled by its canonical text as well, whatever was between the tokens.
-use Rattle.std.proofs.Common.{◌≡◌, ℕ, Bool, true, false, not, ◌&&◌, ◌==◌, List, [], ◌∷◌, ◌++◌, refl, sym, ap, subst, ◌∙◌, map}
+use Rattle.std.proofs.Common.{◌≡◌, ℕ, Bool, true, false, ◌&&◌, ◌==◌, List, [], ◌∷◌, ◌++◌, refl, sym, ap, subst, ◌∙◌, map}
 use Rattle.std.specs.Prelude.{codes}
 use Rattle.std.proofs.lemmas.List.{append_assoc}
 use Rattle.std.specs.declared.option.Option.TheVariants.{None, Some}
 use Rattle.std.specs.Fmt.{signed_decimal}
 use Rattle.std.proofs.lemmas.Bool.{eqb-true}
 use Rattle.opam_syntax.specs.declared.token.Token.{Token}
-use Rattle.opam_syntax.specs.declared.token.Token.TheVariants.{Flag, Int, Text, Plain, Scoped, OpenList, CloseList, OpenBraces, CloseBraces, OpenGroup, CloseGroup, Relation, Update, And, Or, Not, Defined}
+use Rattle.opam_syntax.specs.declared.token.Token.TheVariants.{Flag, Int, Text, Plain, Scoped, OpenGroup, Relation, Update}
 use Rattle.opam_syntax.specs.declared.tree.RelOp.{RelOp}
 use Rattle.opam_syntax.specs.declared.tree.RelOp.TheVariants.{Eq, Ne, Lt, Le, Gt, Ge}
 use Rattle.opam_syntax.specs.declared.tree.EnvOp.{EnvOp}
 use Rattle.opam_syntax.specs.declared.tree.EnvOp.TheVariants.{Set, Before, After, BeforeKeep, AfterKeep}
 use Rattle.opam_syntax.specs.declared.tree.Span.{Span}
 use Rattle.opam_syntax.specs.declared.tree.Node.{Node}
-use Rattle.opam_syntax.specs.declared.tree.Var.{Var}
 use Rattle.opam_syntax.specs.declared.tree.Value.{Value, roll-Value}
 use Rattle.opam_syntax.specs.declared.tree.Value.TheOpen.{Value-F}
-use Rattle.opam_syntax.specs.declared.tree.Value.TheFolds.{fold-Value, map-Value}
-use Rattle.opam_syntax.specs.Words.{word_token, is_word_byte, joins}
+use Rattle.opam_syntax.specs.declared.tree.Value.TheFolds.{map-Value}
 use Rattle.opam_syntax.specs.Signs.{begins_with, relation_text, update_text}
-use Rattle.opam_syntax.specs.Tokens.{First, Single, NoToken, first, Placed, placed, span_between, AreTokens, ends, gap, single, text}
-use Rattle.opam_syntax.specs.Grammar.{Level, ValueLevel, OrLevel, AndLevel, UnaryLevel, RelationLevel, BracedLevel, PrimaryLevel, atom_of, node, last_span, all_of, any_of, begins_relation, Spells, atom, list, group, bare, braced, pre_relation, alone, relation, no_prefix, negation, definedness, conjunction, disjunction, no_update, update, AreValues, no_value, value, AreConjuncts, last_conjunct, conjunct, AreDisjuncts, last_disjunct, disjunct}
-use Rattle.opam_syntax.specs.Spelling.{value_text, joined_by, quoted, flag_text, scope_text, variable_text}
+use Rattle.opam_syntax.specs.Tokens.{Single, first, Placed, placed, span_between, AreTokens, gap, single}
+use Rattle.opam_syntax.specs.Grammar.{Level, OrLevel, AndLevel, PrimaryLevel, atom_of, last_span, all_of, any_of, begins_relation, Spells, atom, list, group, bare, braced, pre_relation, alone, relation, no_prefix, negation, definedness, conjunction, disjunction, no_update, update, AreValues, no_value, value, AreConjuncts, last_conjunct, conjunct, AreDisjuncts, last_disjunct, disjunct}
+use Rattle.opam_syntax.specs.Spelling.{value_text, joined_by, quoted, flag_text}
 use Rattle.opam_syntax.specs.Printed.{placeless}
 use Rattle.opam_syntax.proofs.Folds.{node_at, text_at}
 use Rattle.opam_syntax.proofs.OneTokens.{no_tokens}

@@ -4,7 +4,7 @@ use Rattle.opam_syntax.specs.declared.file.File.{File}
 use Rattle.opam_syntax.specs.declared.file.Key.{Key}
 use Rattle.opam_syntax.specs.declared.tree.Node.{Node}
 use Rattle.opam_syntax.specs.declared.tree.Value.{Value, roll-Value}
-use Rattle.opam_syntax.specs.declared.tree.Value.TheOpen.{Value-F, Node-F}
+use Rattle.opam_syntax.specs.declared.tree.Value.TheOpen.{Node-F}
 use Rattle.opam_syntax.specs.declared.tree.Value.TheFolds.{fold-Node}
 use Rattle.opam_syntax.specs.Files.{Contents, FieldContents, SectionContents, Entry}
 use Rattle.opam_syntax.specs.Spelling.{file_text}

@@ -126,8 +126,8 @@ fn print_enclosed(
     nodes: &[Node],
     closing: &str,
 ) -> Result<(), OutOfMemory>
-    ensures { OnOk result (out.new.items
-        ≡ out.old.items ++ (opening.now ++ joined_by (codes " ") (map value_text nodes.now) ++ closing.now)) }
+    ensures { OnOk result (out.new.items ≡ out.old.items
+        ++ (opening.now ++ joined_by (codes " ") (map value_text nodes.now) ++ closing.now)) }
 {
     print(out, opening)?;
     print_joined(out, nodes, " ")?;
