@@ -8,7 +8,7 @@ use Rattle.opam_names.specs.Paths.{is_above}
 use Rattle.crash_disk.specs.Log.{Listed, kept, first_state, replay, stored_by, stored_after, stored_first, stored_at}
 use Rattle.crash_disk.specs.Below.{IsBelow, IsOut, NoneOf, IsOutPut, NonePut}
 use Rattle.crash_disk.specs.declared.changes.Change.{Change}
-use Rattle.crash_disk.specs.declared.changes.Change.TheVariants.{Put, Removed, Loosened, Synced}
+use Rattle.crash_disk.specs.declared.changes.Change.TheVariants.{Put, Removed, FailedPut, FailedRemoval, Loosened, Synced}
 use Rattle.crash_disk.specs.declared.changes.Entry.{Entry}
 use Rattle.crash_disk.proofs.Files.{get_stored}
 
@@ -51,6 +51,8 @@ module _ (first : List Listed) (log : List Entry) (path q : List ℕ) (below : I
   change_leaves : (change : Change) (es : List Entry) (here : Here) → IsOutPut first log path change → Leaves here (stored_after es q here) → Leaves None (stored_after es q None) → Leaves here (stored_after es q (stored_by change q here))
   change_leaves (Put f) es here none later gone = put_leaves f (bytes_eq q f.0) es here refl none later
   change_leaves (Removed p) es here none later gone = removed_leaves (bytes_eq q p) es here later gone
+  change_leaves (FailedPut f) es here none later gone = later
+  change_leaves (FailedRemoval p) es here none later gone = later
   change_leaves (Loosened p) es here none later gone = later
   change_leaves Synced es here none later gone = later
 

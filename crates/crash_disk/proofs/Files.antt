@@ -13,9 +13,9 @@ use Rattle.opam_names.specs.declared.fault.OutOfMemory.{OutOfMemory}
 use Rattle.outside_io.specs.declared.sink.Failed.{Failed}
 use Rattle.crash_disk.proofs.Order.{replay-push}
 use Rattle.crash_disk.specs.Disks.{State, Kept, Changes, TellsChange, TellsSync, with_file, is_loose}
-use Rattle.crash_disk.specs.Log.{Listed, PlacesAt, placed, loosened, kept, entries_of, first_state, after, replay, stored_by, stored_after, stored_first, stored_at}
+use Rattle.crash_disk.specs.Log.{Listed, Loosens, PlacesAt, placed, loosened, kept, entries_of, first_state, after, replay, stored_by, stored_after, stored_first, stored_at}
 use Rattle.crash_disk.specs.declared.changes.Change.{Change}
-use Rattle.crash_disk.specs.declared.changes.Change.TheVariants.{Put, Removed, Loosened, Synced}
+use Rattle.crash_disk.specs.declared.changes.Change.TheVariants.{Put, Removed, FailedPut, FailedRemoval, Loosened, Synced}
 use Rattle.crash_disk.specs.declared.changes.Entry.{Entry}
 
 abbrev Here : Type 0
@@ -34,6 +34,8 @@ picked false now here file other a o = o
 step : (change : Change) (s : State) (q : List ℕ) (here : Here) → get s.files q ≡ option_map kept here → get (after change s).files q ≡ option_map kept (stored_by change q here)
 step (Put f) s q here is = get_put s f.0 q (kept f) ∙ picked (bytes_eq q f.0) (Some f) here (Some (kept f)) (get s.files q) refl is
 step (Removed path) s q here is = get_removed s path q ∙ picked (bytes_eq q path) None here None (get s.files q) refl is
+step (FailedPut f) s q here is = is
+step (FailedRemoval path) s q here is = is
 step (Loosened path) s q here is = is
 step Synced s q here is = is
 
@@ -144,7 +146,7 @@ module _ (m : ℕ) (first first2 : Vec Listed) (log log1 log2 : List Entry) (pat
   pub synced_noted : (change : Change) → made Synced ≡ made change → log2 ≡ log1 ++ record { moment = m; change = change } ∷ [] → State_is (after Synced (state_of first.items log))
   synced_noted change is noted = grown first2.items log1 log2 m change noted ∙ ap (λ (r : Result Change OutOfMemory). after (made_of r) (state_of first2.items log1)) (sym is) ∙ ap (after Synced) old_state
 
-  pub loosened_noted : (X Y : Type 0) → (X → Y) → ((log2 ≡ log1) × X) ⊎ (log2 ≡ log1 ++ record { moment = m; change = Loosened path } ∷ [])
+  pub loosened_noted : (X Y : Type 0) → (X → Y) → ((log2 ≡ log1) × X) ⊎ ((change : Change) × Loosens path change × (log2 ≡ log1 ++ record { moment = m; change = change } ∷ []))
       → State_is (loosened path (state_of first.items log)) ⊎ (State_is (state_of first.items log) × Y)
   loosened_noted X Y follows (inl same) = inr (ap (state_of first2.items) same.0 ∙ old_state, follows same.1)
-  loosened_noted X Y follows (inr noted) = inl (grown first2.items log1 log2 m (Loosened path) noted ∙ ap (loosened path) old_state)
+  loosened_noted X Y follows (inr noted) = inl (grown first2.items log1 log2 m noted.0 noted.2 ∙ noted.1 (state_of first2.items log1) ∙ ap (loosened path) old_state)

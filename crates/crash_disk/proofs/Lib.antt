@@ -1,6 +1,7 @@
 pub mod Below
 pub mod Effects
 pub mod Files
+pub mod Images
 pub mod Moments
 pub mod Order
 pub mod Stops

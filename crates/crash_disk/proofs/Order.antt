@@ -2,7 +2,7 @@
 use Rattle.std.proofs.Common.{◌≡◌, ◌⊎◌, inl, inr, ℕ, ◌≤◌, ◌<◌, List, [], ◌∷◌, ◌++◌, IsTrue, refl, sym, ◌∙◌, ap, arith, if◌then◌else◌, nat_le, Result, Ok, Err, OnOk, OnErr}
 use Rattle.std.proofs.lemmas.Bool.Decides.{nat_tests}
 use Rattle.crash_disk.specs.Disks.{State}
-use Rattle.crash_disk.specs.Log.{all_until, until, replay, after}
+use Rattle.crash_disk.specs.Log.{Loosens, all_until, until, replay, after}
 use Rattle.crash_disk.specs.declared.changes.Change.{Change}
 use Rattle.crash_disk.specs.declared.changes.Entry.{Entry}
 
@@ -34,6 +34,6 @@ Grows m log new = (new ≡ log) ⊎ ((change : Change) × (new ≡ log ++ record
 pub grows_noted : (m m2 : ℕ) (log log1 log2 : List Entry) (change : Change) → m2 ≡ m → log1 ≡ log → log2 ≡ log1 ++ record { moment = m; change = change } ∷ [] → Grows m2 log log2
 grows_noted m m2 log log1 log2 change a b noted = inr (change, noted ∙ (λ i. b i ++ record { moment = sym a i; change = change } ∷ []))
 
-pub grows_loosened : (X : Type 0) (m m2 : ℕ) (log log1 log2 : List Entry) (change : Change) → m2 ≡ m → log1 ≡ log → ((log2 ≡ log1) × X) ⊎ (log2 ≡ log1 ++ record { moment = m; change = change } ∷ []) → Grows m2 log log2
-grows_loosened X m m2 log log1 log2 change a b (inl same) = inl (same.0 ∙ b)
-grows_loosened X m m2 log log1 log2 change a b (inr noted) = grows_noted m m2 log log1 log2 change a b noted
+pub grows_loosened : (X : Type 0) (m m2 : ℕ) (path : List ℕ) (log log1 log2 : List Entry) → m2 ≡ m → log1 ≡ log → ((log2 ≡ log1) × X) ⊎ ((change : Change) × Loosens path change × (log2 ≡ log1 ++ record { moment = m; change = change } ∷ [])) → Grows m2 log log2
+grows_loosened X m m2 path log log1 log2 a b (inl same) = inl (same.0 ∙ b)
+grows_loosened X m m2 path log log1 log2 a b (inr noted) = grows_noted m m2 log log1 log2 noted.0 a b noted.2

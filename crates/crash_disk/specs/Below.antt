@@ -4,7 +4,7 @@ use Rattle.std.specs.declared.option.Option.TheVariants.{None}
 use Rattle.opam_names.specs.Paths.{is_above}
 use Rattle.crash_disk.specs.Log.{Listed, stored_at}
 use Rattle.crash_disk.specs.declared.changes.Change.{Change}
-use Rattle.crash_disk.specs.declared.changes.Change.TheVariants.{Put, Removed, Loosened, Synced}
+use Rattle.crash_disk.specs.declared.changes.Change.TheVariants.{Put, Removed, FailedPut, FailedRemoval, Loosened, Synced}
 use Rattle.crash_disk.specs.declared.changes.Entry.{Entry}
 
 -- some path below has a file
@@ -24,6 +24,8 @@ NoneOf (f ∷ fs) first log path = IsOut first log path f × NoneOf fs first log
 abbrev pub IsOutPut : List Listed → List Entry → List ℕ → Change → Type 0
 IsOutPut first log path (Put f) = IsOut first log path f
 IsOutPut first log path (Removed p) = Unit {0}
+IsOutPut first log path (FailedPut f) = Unit {0}
+IsOutPut first log path (FailedRemoval p) = Unit {0}
 IsOutPut first log path (Loosened p) = Unit {0}
 IsOutPut first log path Synced = Unit {0}
 

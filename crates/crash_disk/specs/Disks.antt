@@ -56,7 +56,7 @@ pub record Counted {T : Type 0} (before now : ℕ) (result : Result T Failed) : 
   pub ok : OnOk result (now ≡ before)
 
 -- the same of a read, which may want memory besides
-pub record CountedRead (before now : ℕ) (result : Result DiskRead DiskFault) : Type 0 where
+pub record CountedRead {T : Type 0} (before now : ℕ) (result : Result T DiskFault) : Type 0 where
   pub later : before ≤ now
   pub failed : IsErrOf result fault.Failed → Rose before now
   pub memory : IsErrOf result fault.Memory → now ≡ before

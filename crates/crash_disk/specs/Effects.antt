@@ -10,8 +10,7 @@ use Rattle.outside_io.specs.Counts.{last_count}
 use Rattle.outside_io.specs.declared.sink.Failed.{Failed}
 use Rattle.crash_disk.specs.declared.disk.Disk.{Ghosts}
 use Rattle.crash_disk.specs.declared.disk.DiskFault.{DiskFault}
-use Rattle.crash_disk.specs.declared.disk.DiskRead.{DiskRead}
-use Rattle.crash_disk.specs.Disks.{Counted, CountedRead, Kept, State, Tree, is_loose, with_file}
+use Rattle.crash_disk.specs.Disks.{Counted, CountedRead, State, Tree, is_loose, with_file}
 
 -- time goes on, and no other has claimed the disk
 pub record Advances {D : Type 0} (g : Ghosts D) (old new : D) : Type 0 where
@@ -30,8 +29,8 @@ pub record OnlyReads {D : Type 0} (g : Ghosts D) (old new : D) : Type 0 where
 abbrev pub Fails : {D T : Type 0} → Ghosts D → D → D → Result T Failed → Type 0
 Fails g old new result = Counted (g.faults old) (g.faults new) result
 
--- the same of a read
-abbrev pub FailsReading : {D : Type 0} → Ghosts D → D → D → Result DiskRead DiskFault → Type 0
+-- the same of a read, which may want memory besides
+abbrev pub FailsReading : {D T : Type 0} → Ghosts D → D → D → Result T DiskFault → Type 0
 FailsReading g old new result = CountedRead (g.faults old) (g.faults new) result
 
 -- whether a path is one of these

@@ -4,5 +4,7 @@ pub mod Effects
 pub mod InOrder
 pub mod Log
 pub mod Memory
+pub mod Spots
 pub mod Stops
+pub mod Traces
 pub mod Writes

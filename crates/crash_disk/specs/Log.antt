@@ -6,7 +6,7 @@ use Rattle.std.specs.declared.option.Option.{Option}
 use Rattle.std.specs.declared.option.Option.TheVariants.{None, Some}
 use Rattle.crash_disk.specs.Disks.{State, Kept, Tree, with_file}
 use Rattle.crash_disk.specs.declared.changes.Change.{Change}
-use Rattle.crash_disk.specs.declared.changes.Change.TheVariants.{Put, Removed, Loosened, Synced}
+use Rattle.crash_disk.specs.declared.changes.Change.TheVariants.{Put, Removed, FailedPut, FailedRemoval, Loosened, Synced}
 use Rattle.crash_disk.specs.declared.changes.Entry.{Entry}
 
 -- a path, the bytes of the file there, and its executable bit
@@ -42,12 +42,27 @@ loosened path s = record { files = s.files; loose = path ∷ s.loose }
 abbrev pub after : Change → State → State
 after (Put f) s = placed f.0 (Some (kept f)) s
 after (Removed path) s = placed path None s
+after (FailedPut f) s = loosened f.0 s
+after (FailedRemoval path) s = loosened path s
 after (Loosened path) s = loosened path s
 after Synced s = record { files = s.files; loose = [] }
 
 -- whatever was there before, the change leaves this at the path
 abbrev pub PlacesAt : List ℕ → Option Kept → Change → Type 0
 PlacesAt path file change = (s : State) → after change s ≡ placed path file s
+
+-- the change is a put or a removal at this path
+abbrev pub IsAt : List ℕ → Change → Type 0
+IsAt path (Put f) = f.0 ≡ path
+IsAt path (Removed gone) = gone ≡ path
+IsAt path (FailedPut f) = ⊥
+IsAt path (FailedRemoval gone) = ⊥
+IsAt path (Loosened gone) = ⊥
+IsAt path Synced = ⊥
+
+-- it leaves the path loose, and all else as it was
+abbrev pub Loosens : List ℕ → Change → Type 0
+Loosens path change = (s : State) → after change s ≡ loosened path s
 
 -- the oldest comes first
 abbrev pub replay : List Entry → State → State
@@ -68,6 +83,8 @@ all_until t (e ∷ es) = if nat_le e.moment t then all_until t es else false
 abbrev pub stored_by : Change → List ℕ → Option Listed → Option Listed
 stored_by (Put f) q here = if bytes_eq q f.0 then Some f else here
 stored_by (Removed path) q here = if bytes_eq q path then None else here
+stored_by (FailedPut f) q here = here
+stored_by (FailedRemoval path) q here = here
 stored_by (Loosened path) q here = here
 stored_by Synced q here = here
 

@@ -6,12 +6,14 @@ use Rattle.std.specs.declared.option.Option.TheVariants.{Some}
 use Rattle.outside_io.specs.Counts.{Rose, last_count}
 use Rattle.crash_disk.specs.Disks.{State}
 use Rattle.crash_disk.specs.Log.{first_state, loosened, replay, until}
+use Rattle.crash_disk.specs.Spots.{Spot, spot_at}
 use Rattle.crash_disk.specs.declared.memory_disk.MemoryDisk.{MemoryDisk}
 
--- its state now and at each moment, the calls that are to fail, and its counts
+-- its state now and at each moment, what is known of each path at each moment, the calls that are to fail, and its counts
 pub record Shown : Type 0 where
   pub state : State
   pub past : ℕ → State
+  pub spot : ℕ → List ℕ → Spot
   pub fail : List ℕ
   pub calls : ℕ
   pub faults : ℕ
@@ -24,6 +26,7 @@ abbrev pub shown : MemoryDisk → Shown
 shown d = record {
   state = replay d.log (first_state d.first.items);
   past = λ t. replay (until t d.log) (first_state d.first.items);
+  spot = λ t q. spot_at d.first.items (until t d.log) q;
   fail = d.fail.items;
   calls = d.calls;
   faults = d.faults;

@@ -1,11 +1,12 @@
 // The changes of a disk, each with its moment, and what they leave at a path.
-ghost use Rattle.std.specs.Prelude.{◌≡◌, Some, None, IsTrue, Err, OnErr, IfOk};
+ghost use Rattle.std.specs.Prelude.{◌≡◌, ℕ, List, Some, None, IsTrue, Err, OnErr, IfOk};
+ghost use Rattle.std.specs.Result.{ForOk};
 ghost use Rattle.std.specs.Bool.{OnTrue, OnFalse};
 ghost use Rattle.std.specs.Option.{option_copied};
 ghost use Rattle.std.specs.FinMap.{get};
 ghost use Rattle.crash_disk.specs.Below.{IsBelow, IsOut, NoneOf, NonePut};
 ghost use Rattle.crash_disk.specs.Disks.{IsLook, IsRead};
-ghost use Rattle.crash_disk.specs.Log.{PlacesAt, first_state, kept, replay, stored_at, stored_by, stored_first};
+ghost use Rattle.crash_disk.specs.Log.{IsAt, Loosens, PlacesAt, first_state, kept, replay, stored_at, stored_by, stored_first};
 
 use crate::{DiskFault, DiskRead, Look};
 use opam_names::{Items, OutOfMemory, RelPath};
@@ -14,11 +15,13 @@ use std::alloc::Global;
 // A path, the bytes of the file there, and its executable bit.
 pub(crate) type Listed = (RelPath, Vec<u8>, bool);
 
-// What a call did. A loosened path is one at which a call failed.
+// What a call did, or tried to do where it failed. A loosened path is one at which a call failed for want of memory.
 #[derive(Drop)]
 pub(crate) enum Change {
     Put(Listed),
     Removed(RelPath),
+    FailedPut(Listed),
+    FailedRemoval(RelPath),
     Loosened(RelPath),
     Synced,
 }
@@ -51,12 +54,14 @@ fn stored_now<'a>(
                 here
             }
         }
+        Change::FailedPut(_) => here,
+        Change::FailedRemoval(_) => here,
         Change::Loosened(_) => here,
         Change::Synced => here,
     }
 }
 
-fn find_first<'a>(first: &'a [Listed], path: &RelPath) -> Option<&'a Listed>
+pub(crate) fn find_first<'a>(first: &'a [Listed], path: &RelPath) -> Option<&'a Listed>
     ensures { option_copied result ≡ stored_first first.now path.now }
 {
     let mut rest = first;
@@ -175,7 +180,8 @@ pub(crate) fn make_put(
     bytes: &[u8],
     exec: bool,
 ) -> Result<Change, OutOfMemory>
-    ensures { IfOk result (λ change. PlacesAt path.now (Some (record { bytes = bytes.now; exec = exec })) change) }
+    ensures leaves { IfOk result (λ change. PlacesAt path.now (Some (record { bytes = bytes.now; exec = exec })) change) }
+    ensures at { IfOk result (λ change. IsAt path.now change) }
 {
     let path = path.copy(alloc)?;
     let bytes = Vec::from_slice(alloc, bytes)?;
@@ -183,12 +189,42 @@ pub(crate) fn make_put(
 }
 
 pub(crate) fn make_removed(alloc: Global, path: &RelPath) -> Result<Change, OutOfMemory>
-    ensures { IfOk result (λ change. PlacesAt path.now None change) }
+    ensures leaves { IfOk result (λ change. PlacesAt path.now None change) }
+    ensures at { IfOk result (λ change. IsAt path.now change) }
 {
     Ok(Change::Removed(path.copy(alloc)?))
 }
 
-pub(crate) fn make_loosened(alloc: Global, path: &RelPath) -> Result<Change, OutOfMemory>
+// What a change leaves where the call has failed.
+fn failed_change(change: Change) -> Change
+    ensures { (path : List ℕ) → IsAt path change → Loosens path result }
+{
+    match change {
+        Change::Put(listed) => Change::FailedPut(listed),
+        Change::Removed(path) => Change::FailedRemoval(path),
+        Change::FailedPut(listed) => Change::FailedPut(listed),
+        Change::FailedRemoval(path) => Change::FailedRemoval(path),
+        Change::Loosened(path) => Change::Loosened(path),
+        Change::Synced => Change::Synced,
+    }
+}
+
+// The same of a change for which memory may have been refused: then it is known only that the path is loose.
+pub(crate) fn make_failed(
+    alloc: Global,
+    path: &RelPath,
+    change: Result<Change, OutOfMemory>,
+) -> Result<Change, OutOfMemory>
+    requires { ForOk change (λ made. IsAt path.now made) }
+    ensures { IfOk result (λ failed. Loosens path.now failed) }
+{
+    match change {
+        Ok(change) => Ok(failed_change(change)),
+        Err(_) => make_loosened(alloc, path),
+    }
+}
+
+fn make_loosened(alloc: Global, path: &RelPath) -> Result<Change, OutOfMemory>
     ensures { IfOk result (λ change. change ≡ Change.Loosened path.now) }
 {
     Ok(Change::Loosened(path.copy(alloc)?))

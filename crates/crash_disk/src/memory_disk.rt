@@ -3,6 +3,7 @@ ghost use Rattle.std.specs.Prelude.{IsTrue};
 ghost use Rattle.crash_disk.specs.Log.{all_until};
 
 mod calls;
+mod images;
 
 use crate::changes::{Entry, Listed};
 use opam_names::Items;

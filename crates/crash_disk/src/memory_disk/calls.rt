@@ -1,15 +1,16 @@
 // The calls of a disk in memory: each is counted, and keeps what it changed.
 ghost use Rattle.std.specs.Prelude.{◌≡◌, ◌≤◌, ◌+◌, ◌⊎◌, ◌↔◌, min, ◌++◌, [], ◌∷◌, Some, None, IsTrue, Ok, Err, IsErrOf, OnOk, OnErr, IfOk, IsErr};
 ghost use Rattle.std.specs.Bool.{OnTrue, OnFalse};
+ghost use Rattle.std.specs.Result.{ForOk};
 ghost use Rattle.std.specs.declared.option.Option.{Option};
 ghost use Rattle.outside_io.specs.Counts.{Rose, last_count};
 ghost use Rattle.crash_disk.specs.Disks.{ClaimGives, Counted, CountedRead, Elapses, Kept, Looks, Reads, TellsChange, TellsSync};
-ghost use Rattle.crash_disk.specs.Log.{PlacesAt, first_state, placed, replay};
+ghost use Rattle.crash_disk.specs.Log.{IsAt, Loosens, PlacesAt, first_state, placed, replay};
 ghost use Rattle.crash_disk.specs.Memory.{FailsLoose, fails_next, shown, told_at, told_now, told_taken};
 ghost use Rattle.crash_disk.specs.declared.changes.Change.{Change};
 
 use super::MemoryDisk;
-use crate::changes::{Change, Entry, look_at, make_loosened, make_put, make_removed, read_at};
+use crate::changes::{Change, Entry, look_at, make_failed, make_put, make_removed, read_at};
 use crate::{Claim, Disk, DiskFault, DiskRead, Look};
 use opam_names::{Items, OutOfMemory, RelPath};
 use outside_io::Failed;
@@ -163,7 +164,8 @@ impl MemoryDisk {
     }
 
     // A call on this path has failed, and a stop may leave anything there, if there is memory to say so.
-    fn loosen(&mut self, path: &RelPath)
+    fn loosen(&mut self, path: &RelPath, change: Result<Change, OutOfMemory>)
+        requires { ForOk change (λ made. IsAt path.now made) }
         ensures clock { self.new.calls ≡ self.old.calls }
         ensures first { self.new.first ≡ self.old.first }
         ensures fail { self.new.fail ≡ self.old.fail }
@@ -172,14 +174,15 @@ impl MemoryDisk {
         ensures faults { self.new.faults ≡ self.old.faults }
         ensures later { self.old.starved ≤ self.new.starved }
         ensures log { ((self.new.log ≡ self.old.log) × Rose self.old.starved self.new.starved)
-            ⊎ (self.new.log ≡ self.old.log ++ record { moment = self.old.calls; change = Change.Loosened path.now } ∷ []) }
+            ⊎ ((failed : Change) × Loosens path.now failed × (self.new.log ≡ self.old.log ++ record { moment = self.old.calls; change = failed } ∷ [])) }
     {
-        let loosened = make_loosened(self.alloc, path);
-        let _ = self.note(loosened);
+        let failed = make_failed(self.alloc, path, change);
+        let _ = self.note(failed);
     }
 
     // A call on a path, by a change for which memory may have been refused.
     fn change(&mut self, path: &RelPath, change: Result<Change, OutOfMemory>) -> Result<(), Failed>
+        requires { ForOk change (λ made. IsAt path.now made) }
         ensures cause { Counted self.old.faults self.new.faults result }
         ensures held { self.new.held ≡ self.old.held }
         ensures taken { self.new.taken ≡ self.old.taken }
@@ -193,14 +196,14 @@ impl MemoryDisk {
         ensures kept { OnOk result (self.new.starved ≡ self.old.starved) }
     {
         if self.begin() {
-            self.loosen(path);
+            self.loosen(path, change);
             return Err(Failed);
         }
         match self.note(change) {
             Ok(()) => Ok(()),
             Err(_) => {
                 self.count_fault();
-                self.loosen(path);
+                self.loosen(path, Err(OutOfMemory));
                 Err(Failed)
             }
         }
