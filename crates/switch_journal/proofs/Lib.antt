@@ -1,0 +1,10 @@
+pub mod Apart
+pub mod CommitStops
+pub mod Committed
+pub mod GatedTells
+pub mod Numbered
+pub mod Read
+pub mod RedoStops
+pub mod SlotStops
+pub mod Slotted
+pub mod Tests

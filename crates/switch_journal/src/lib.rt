@@ -1,0 +1,15 @@
+//! The journal of a switch on a disk: which records count, how one is committed, how the last one's work is done again, and
+//! what a stop of the machine at any moment of this leaves.
+#![tactic(auto)]
+
+mod commits;
+mod gated;
+mod laws;
+mod places;
+mod slots;
+
+pub use commits::{Ready, commit, make_ready, redo};
+pub use gated::{Gated, read_record, read_slot};
+pub use laws::{a_journal_is_read_by_its_files, records_are_determined};
+pub use places::{gate_path_of, record_path_of, slot_gate_of, slot_path_of};
+pub use slots::{ReadySlot, make_slot, write_slot};
