@@ -38,7 +38,8 @@ pub fn read<D: Disk>(
 pub fn put<D: Disk>(disk: &mut D, path: &RelPath, bytes: &[u8], exec: bool) -> Result<(), Failed>
     ensures cause { Fails D.Disk disk.old disk.new result }
     ensures touches { Touches D.Disk (path.now ∷ []) disk.old disk.new }
-    ensures done { OnOk result (Becomes D.Disk (with_put path.now bytes.now exec) disk.old disk.new) }
+    ensures done { OnOk result
+        (Becomes D.Disk (with_put path.now bytes.now exec) disk.old disk.new) }
 {
     disk.put(path, bytes, exec)
 }

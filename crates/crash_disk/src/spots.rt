@@ -148,7 +148,8 @@ fn append_bytes(bytes: &mut Vec<u8>, file: Option<&Listed>) -> Result<(), OutOfM
 }
 
 fn make_junk(alloc: Global, path: &RelPath, trace: Trace) -> Result<Change, OutOfMemory>
-    ensures { IfOk result (λ change. PlacesAt path.now (Some (junk_file (spot_of trace.entry))) change) }
+    ensures { IfOk result (λ change.
+        PlacesAt path.now (Some (junk_file (spot_of trace.entry))) change) }
 {
     let mut bytes = Vec::new(alloc);
     append_bytes(&mut bytes, trace.before)?;
@@ -164,7 +165,8 @@ pub(crate) fn make_chosen(
     choice: Choice,
     trace: Trace,
 ) -> Result<Change, OutOfMemory>
-    ensures { IfOk result (λ change. PlacesAt path.now (image_file choice (spot_of trace.entry)) change) }
+    ensures { IfOk result (λ change.
+        PlacesAt path.now (image_file choice (spot_of trace.entry)) change) }
 {
     if !trace.loose {
         return make_placed(alloc, path, trace.here);

@@ -81,7 +81,8 @@ pub fn commit<D: Disk>(disk: &mut D, ready: &Ready) -> Result<(), Failed>
     // A stop at any moment leaves the journal from before, or the one with the record.
     ensures crash { (j : Journal) (text : List ℕ) → Begins j text ready.now (D.told disk.old)
         → StopsLeave D.Disk (IsBeforeOrAfter j text ready.now.writes) disk.old disk.new }
-    ensures done { OnOk result ((j : Journal) (text : List ℕ) → Begins j text ready.now (D.told disk.old)
+    ensures done { OnOk result ((j : Journal) (text : List ℕ)
+        → Begins j text ready.now (D.told disk.old)
         → RestsAs (with_record j text ready.now.writes) (D.told disk.new)) }
 {
     write_all(disk, ready.entry.as_slice())?;

@@ -30,7 +30,8 @@ pub enum Gated {
 fn is_gate_open<D: Disk>(disk: &mut D, alloc: Global, gate: &RelPath) -> Result<bool, DiskFault>
     ensures cause { FailsReading D.Disk disk.old disk.new result }
     ensures reads { OnlyReads D.Disk disk.old disk.new }
-    ensures told { (s : State) → D.told disk.old ≡ Some s → IfOk result (λ is. is ≡ opens (get s.files gate.now)) }
+    ensures told { (s : State) → D.told disk.old ≡ Some s
+        → IfOk result (λ is. is ≡ opens (get s.files gate.now)) }
 {
     match read(disk, alloc, gate, 3)? {
         DiskRead::Absent => Ok(false),
@@ -69,7 +70,8 @@ pub fn read_record<D: Disk>(
 ) -> Result<Gated, DiskFault>
     ensures cause { FailsReading D.Disk disk.old disk.new result }
     ensures reads { OnlyReads D.Disk disk.old disk.new }
-    ensures told { TellsGated (D.told disk.old) (gate_path number) (record_path number) limit result }
+    ensures told { TellsGated (D.told disk.old) (gate_path number) (record_path number)
+        limit result }
 {
     let gate = gate_path_of(alloc, number)?;
     let path = record_path_of(alloc, number)?;

@@ -106,9 +106,11 @@ pub fn write_slot<D: Disk>(disk: &mut D, ready: &ReadySlot) -> Result<(), Failed
     ensures cause { Fails D.Disk disk.old disk.new result }
     ensures goes { Advances D.Disk disk.old disk.new }
     // A stop at any moment leaves the journal from before, with the slot shut, or with the slot written.
-    ensures crash { (j : Journal) (slot : Bool) (text : List ℕ) → SlotBegins j slot text ready.now (D.told disk.old)
+    ensures crash { (j : Journal) (slot : Bool) (text : List ℕ)
+        → SlotBegins j slot text ready.now (D.told disk.old)
         → StopsLeave D.Disk (IsSlotStage j slot text) disk.old disk.new }
-    ensures done { OnOk result ((j : Journal) (slot : Bool) (text : List ℕ) → SlotBegins j slot text ready.now (D.told disk.old)
+    ensures done { OnOk result ((j : Journal) (slot : Bool) (text : List ℕ)
+        → SlotBegins j slot text ready.now (D.told disk.old)
         → RestsAs (slot_written j slot text) (D.told disk.new)) }
 {
     write_all(disk, ready.shut.as_slice())?;

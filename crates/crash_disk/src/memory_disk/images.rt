@@ -18,8 +18,11 @@ impl MemoryDisk {
     /// what the choice says, and each other path what it had. No other has claimed it, and nothing is loose.
     pub fn image(&self, moment: u64, choice: Choice) -> Result<MemoryDisk, OutOfMemory>
         requires { moment ≤ (shown self.now).calls }
-        ensures told { IfOk result (λ disk. TellsImage choice ((shown self.now).spot moment) (told_now (shown disk))) }
-        ensures left { IfOk result (λ disk. LeftSince (shown self.now).calls (told_at (shown self.now)) moment (shown disk).state.files) }
+        ensures told { IfOk result (λ disk.
+            TellsImage choice ((shown self.now).spot moment) (told_now (shown disk))) }
+        // It is one of the images that a disk might have left at that moment.
+        ensures left { IfOk result (λ disk. LeftSince (shown self.now).calls (told_at (shown self.now))
+            moment (shown disk).state.files) }
         ensures taken { IfOk result (λ disk. (shown disk).taken ≡ false) }
         ensures calls { IfOk result (λ disk. (shown disk).calls ≡ 0) }
         ensures fail { IfOk result (λ disk. (shown disk).fail ≡ []) }
@@ -98,7 +101,8 @@ fn choose_one(
     change: &Change,
 ) -> Result<(), OutOfMemory>
     ensures chosen { OnOk result ((q : List ℕ) (spot : Spot) → (spot_after made.new q spot).here ≡
-        (if is_here q (path_in change.now) then image_file choice (spot_at first.now (until moment log.now) q)
+        (if is_here q (path_in change.now)
+        then image_file choice (spot_at first.now (until moment log.now) q)
         else (spot_after made.old q spot).here)) }
     ensures start { OnOk result (IsTrue (all_until 0 made.old) → IsTrue (all_until 0 made.new)) }
 {
@@ -120,8 +124,10 @@ fn choose_all(
     moment: u64,
     choice: Choice,
 ) -> Result<Items<Entry>, OutOfMemory>
-    ensures chosen { IfOk result (λ made. (q : List ℕ) (spot : Spot) → spot.here ≡ (spot_first first.now q).here
-        → (spot_after made q spot).here ≡ image_file choice (spot_at first.now (until moment log.now) q)) }
+    ensures chosen { IfOk result (λ made. (q : List ℕ) (spot : Spot)
+        → spot.here ≡ (spot_first first.now q).here
+        → (spot_after made q spot).here
+        ≡ image_file choice (spot_at first.now (until moment log.now) q)) }
     ensures firm { IfOk result (λ made. (s : State) → (replay made s).loose ≡ []) }
     ensures start { IfOk result (λ made. IsTrue (all_until 0 made)) }
 {
