@@ -143,13 +143,30 @@ module _ {D : Type 0} {g : Ghosts D} where
   }
 
   pub reads_none : (d : D) → OnlyReads g d d
-  reads_none d = record { goes = advances_none d; same = refl }
+  reads_none d = record { goes = advances_none d; same = refl; each = λ short t after until. absurd (omega arith) }
 
   pub reads_one : {old new : D} → Time g old new → g.held new ≡ g.held old → g.taken new ≡ g.taken old → g.told new ≡ g.told old → OnlyReads g old new
-  reads_one time held taken same = record { goes = advances_one time held taken; same = same }
+  reads_one {old} {new} time held taken same = record {
+    goes = advances_one time held taken;
+    same = same;
+    each = λ short t after until.
+        let clock = time.clock in let later = time.later in
+        let now_is : g.past new (g.moment new) ≡ g.told new = time.newest (omega (arith, later, short)) in
+        let here : t ≡ g.moment new = omega (arith, clock, later, after, until, short) in
+        ap (g.past new) here ∙ now_is ∙ same;
+  }
 
   pub reads_then : {a b c : D} → OnlyReads g a b → OnlyReads g b c → OnlyReads g a c
-  reads_then one two = record { goes = advances_then one.goes two.goes; same = two.same ∙ one.same }
+  reads_then {a} {b} {c} one two = record {
+    goes = advances_then one.goes two.goes;
+    same = two.same ∙ one.same;
+    each = λ short t after up_to.
+        let later = two.goes.later in
+        elim (cases_lt (g.moment b) t) [
+          | inr le ↦ two.goes.keeps t le short ∙ one.each (omega (arith, later, short)) t after le
+          | inl lt ↦ two.each short t lt up_to ∙ one.same
+        ];
+  }
 
   pub reads_thrice : {a b c d : D} → OnlyReads g a b → OnlyReads g b c → OnlyReads g c d → OnlyReads g a d
   reads_thrice one two three = reads_then (reads_then one two) three
@@ -158,6 +175,14 @@ module _ {D : Type 0} {g : Ghosts D} where
 
   pub touches_none : (paths : Paths) (d : D) → Touches g paths d d
   touches_none paths d = record { goes = advances_none d; now = off_none paths (g.told d); each = λ short t after until. absurd (omega arith) }
+
+  -- calls that only read touch nothing
+  pub touches_reading : (paths : Paths) {a b : D} → OnlyReads g a b → Touches g paths a b
+  touches_reading paths {a} {b} reads = record {
+    goes = reads.goes;
+    now = off_same paths (g.told a) (g.told b) reads.same;
+    each = λ short t after up_to. off_same paths (g.told a) (g.past b t) (reads.each short t after up_to);
+  }
 
   pub touches_one : {paths : Paths} {old new : D} → Time g old new → g.held new ≡ g.held old → g.taken new ≡ g.taken old → StaysOff paths (g.told old) (g.told new) → Touches g paths old new
   touches_one {paths} {old} {new} time held taken off = record {

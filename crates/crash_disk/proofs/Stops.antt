@@ -1,5 +1,5 @@
 -- What a stop at any moment of some calls leaves.
-use Rattle.std.proofs.Common.{◌≡◌, inl, inr, ℕ, ◌<◌, List, IsTrue, IsFalse, Option, Some, IfSome, Result, Ok, Err, OnOk, refl, sym, ◌∙◌, ap, subst, arith}
+use Rattle.std.proofs.Common.{◌≡◌, inl, inr, ℕ, ◌<◌, List, [], IsTrue, IsFalse, Option, Some, IfSome, Result, Ok, Err, OnOk, refl, sym, ◌∙◌, ap, subst, arith}
 use Rattle.std.specs.FinMap.{get}
 use Rattle.std.specs.Option.{option_map}
 use Rattle.std.proofs.Math.Nat.{le_refl}
@@ -8,10 +8,10 @@ use Rattle.outside_io.specs.Counts.{last_count}
 use Rattle.crash_disk.specs.declared.disk.Disk.{Ghosts}
 use Rattle.crash_disk.specs.Disks.{IsImage, State, Tree, is_loose}
 use Rattle.outside_io.specs.declared.sink.Failed.{Failed}
-use Rattle.crash_disk.proofs.Effects.{advances_then}
+use Rattle.crash_disk.proofs.Effects.{advances_then, touches_reading}
 use Rattle.crash_disk.specs.Writes.{paths_of, with_writes}
 use Rattle.crash_disk.specs.declared.batch.Write.{Write}
-use Rattle.crash_disk.specs.Effects.{Advances, IsSameOff, Leaves, StaysOff, Touches, at_rest, is_one, rested}
+use Rattle.crash_disk.specs.Effects.{Advances, IsSameOff, Leaves, OnlyReads, StaysOff, Touches, at_rest, is_one, rested}
 use Rattle.crash_disk.specs.Stops.{IsImageOff, IsSameBut, StopsLeave}
 
 abbrev Paths : Type 0
@@ -133,3 +133,11 @@ module _ {D : Type 0} {g : Ghosts D} (now_is : NowIs g) where
   -- one more that may have failed
   pub stage_stops : {P : Tree → Type 0} (writes : List Write) {tree : Tree} {a b c : D} → Stage g P a b tree → Touches g (paths_of writes) b c → ((image : Tree) → IsSameBut (paths_of writes) tree image → P image) → StopsLeave g P a c
   stage_stops {P} writes {tree} stage touches here = stops_then stage.goes touches.goes stage.stops (stops_by now_is P (paths_of writes) tree stage.told touches here)
+
+  -- calls that only read
+  pub stage_reads : {P : Tree → Type 0} {tree : Tree} {a b c : D} → Stage g P a b tree → OnlyReads g b c → ((image : Tree) → ((q : List ℕ) → get image q ≡ get tree q) → P image) → Stage g P a c tree
+  stage_reads {P} {tree} stage reads here = record {
+    goes = advances_then stage.goes reads.goes;
+    stops = stops_then stage.goes reads.goes stage.stops (stops_by now_is P [] tree stage.told (touches_reading [] reads) (λ image same. here image (λ q. same q refl)));
+    told = reads.same ∙ stage.told;
+  }

@@ -20,10 +20,11 @@ pub record Advances {D : Type 0} (g : Ghosts D) (old new : D) : Type 0 where
   pub held : g.held new ≡ g.held old
   pub taken : g.taken new ≡ g.taken old
 
--- the same, and nothing else has changed
+-- the same, and nothing else has changed, at any moment
 pub record OnlyReads {D : Type 0} (g : Ghosts D) (old new : D) : Type 0 where
   pub goes : Advances g old new
   pub same : g.told new ≡ g.told old
+  pub each : g.moment new < last_count → (t : ℕ) → g.moment old < t → t ≤ g.moment new → g.past new t ≡ g.told old
 
 -- `Failed` comes only where a fault was counted, and a fault is counted only there
 abbrev pub Fails : {D T : Type 0} → Ghosts D → D → D → Result T Failed → Type 0
