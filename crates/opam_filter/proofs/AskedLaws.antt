@@ -1,27 +1,23 @@
 -- The value of a filter depends on the packages that it asks for alone.
 use Rattle.std.proofs.Common.{◌≡◌, ℕ, ◌||◌, Bool, true, false, not, cond, List, [], ◌∷◌, ◌++◌, filter, fold, map, refl, sym, ap, subst, ◌∙◌}
 use Rattle.std.proofs.lemmas.List.Folds.{list_any-append}
-use Rattle.std.proofs.lemmas.Map.Lookups.{exact_bytes}
 use Rattle.std.proofs.lemmas.Slice.Eq.{bytes_eq-Decides}
-use Rattle.std.specs.BTreeSet.{insert_key}
 use Rattle.std.specs.FinMap.{get}
 use Rattle.std.specs.Bool.{IsTrue}
 use Rattle.std.specs.List.{after_first, flat_map, list_any}
-use Rattle.std.specs.Cmp.Lexicographic.{slice_cmp}
-use Rattle.std.specs.Ordering.{match_ordering, nat_cmp}
 use Rattle.std.specs.Option.{is_some}
 use Rattle.std.specs.Prelude.{bytes_eq, codes}
-use Rattle.std.specs.declared.cmp.Ordering.{Ordering}
-use Rattle.std.specs.declared.cmp.Ordering.TheVariants.{Less, Equal, Greater}
 use Rattle.std.specs.declared.option.Option.{Option}
 use Rattle.std.specs.declared.option.Option.TheVariants.{None, Some}
 use Rattle.opam_names.specs.Names.{is_name}
 use Rattle.opam_syntax.specs.Words.{scope_parts}
 use Rattle.opam_syntax.specs.declared.tree.Var.{Var}
+use Rattle.opam_names.proofs.RisingLists.{each_once_members, each_once_rises}
 use Rattle.opam_filter.specs.Asked.{layer_names, names_in, names_in_text, names_of_scope}
-use Rattle.opam_filter.specs.Laws.{AgreeOn, AskedIsEnough, is_scope_among}
-use Rattle.opam_filter.specs.NameSets.{in_byte_order, with_name}
+use Rattle.opam_filter.specs.Laws.{AgreeOn, AreEachOnce, AskedIsEnough, NamesRise, is_scope_among}
+use Rattle.opam_filter.specs.NameSets.{in_byte_order}
 use Rattle.opam_filter.specs.Scopes.{all_in, enable_value, is_joined, joined_value, plain, scoped, scoped_value, value_at}
+use Rattle.opam_filter.specs.Sets.{kept_names}
 use Rattle.opam_filter.specs.Texts.{Hole, asked_for, chosen, expanded, filled, is_question, parts_of, shown}
 use Rattle.opam_filter.specs.Truths.{all_of, any_of, both, is_yes, negated, related, truth_of, value_of}
 use Rattle.opam_filter.specs.Values.{filter_value, layer_value}
@@ -31,12 +27,6 @@ use Rattle.opam_filter.specs.declared.filter.Filter.TheOpen.{Filter-F}
 use Rattle.opam_filter.specs.declared.filter.Filter.TheFolds.{fold-roll-Filter, ind-Filter, map-Filter}
 use Rattle.opam_filter.specs.declared.truth.VarValue.{VarValue}
 use Rattle.opam_filter.specs.declared.truth.VarValue.TheVariants.{Flag, Text}
-
-abbrev order : List ℕ → List ℕ → Ordering
-order x y = slice_cmp nat_cmp x y
-
-abbrev put : List (List ℕ) → List ℕ → List (List ℕ)
-put names name = insert_key (slice_cmp nat_cmp) names name
 
 or_left : (x y : Bool) → x ≡ true → (x || y) ≡ true
 or_left true y h = refl
@@ -49,40 +39,6 @@ or_right false y h = h
 or_either : (x y z : Bool) → (x ≡ true → z ≡ true) → (y ≡ true → z ≡ true) → (x || y) ≡ true → z ≡ true
 or_either true y z f g h = f refl
 or_either false y z f g h = g h
-
-or_swap : (x y z : Bool) → (x || (y || z)) ≡ ((x || y) || z)
-or_swap true y z = refl
-or_swap false y z = refl
-
-or_turn : (x y : Bool) → (x || y) ≡ (y || x)
-or_turn true true = refl
-or_turn true false = refl
-or_turn false true = refl
-or_turn false false = refl
-
-or_again : (x y : Bool) → (x || y) ≡ ((x || y) || x)
-or_again true y = refl
-or_again false true = refl
-or_again false false = refl
-
--- those in which a name is put are the name and what was there
-put_those : (name k : List ℕ) (names : List (List ℕ)) → list_any (bytes_eq name) (put names k) ≡ (list_any (bytes_eq name) names || bytes_eq name k)
-put_those name k [] = or_turn (bytes_eq name k) false
-put_those name k (x ∷ names) = by (order k x) refl (put_those name k names)
-  where
-    by : (o : Ordering) → order k x ≡ o → list_any (bytes_eq name) (put names k) ≡ (list_any (bytes_eq name) names || bytes_eq name k)
-        → list_any (bytes_eq name) (match_ordering o (k ∷ x ∷ names) (x ∷ names) (x ∷ put names k)) ≡ ((bytes_eq name x || list_any (bytes_eq name) names) || bytes_eq name k)
-    by Less e more = or_turn (bytes_eq name k) (bytes_eq name x || list_any (bytes_eq name) names)
-    by Equal e more = or_again (bytes_eq name x) (list_any (bytes_eq name) names)
-        ∙ ap (λ y. (bytes_eq name x || list_any (bytes_eq name) names) || bytes_eq name y) (sym (exact_bytes k x e))
-    by Greater e more = ap (λ b. bytes_eq name x || b) more ∙ or_swap (bytes_eq name x) (list_any (bytes_eq name) names) (bytes_eq name k)
-
--- the same of several
-fold_those : (name : List ℕ) (given names : List (List ℕ)) → list_any (bytes_eq name) (fold with_name names given) ≡ (list_any (bytes_eq name) names || list_any (bytes_eq name) given)
-fold_those name [] names = or_turn false (list_any (bytes_eq name) names)
-fold_those name (k ∷ given) names =
-    fold_those name given (put names k) ∙ ap (λ b. b || list_any (bytes_eq name) given) (put_those name k names)
-    ∙ sym (or_swap (list_any (bytes_eq name) names) (bytes_eq name k) (list_any (bytes_eq name) given))
 
 among : (small big : List (List ℕ)) → ((name : List ℕ) → list_any (bytes_eq name) small ≡ true → list_any (bytes_eq name) big ≡ true)
     → (scope : Option (List ℕ)) → IsTrue (is_scope_among small scope) → IsTrue (is_scope_among big scope)
@@ -99,7 +55,7 @@ fewer small big values others within agree = λ variable h. agree variable (amon
 
 -- the order does not matter
 in_order : (names : List (List ℕ)) (values others : Values) → AgreeOn (in_byte_order names) values others → AgreeOn names values others
-in_order names values others = fewer names (in_byte_order names) values others (λ name h. fold_those name names [] ∙ h)
+in_order names values others = fewer names (in_byte_order names) values others (λ name h. each_once_members names name ∙ h)
 
 -- of names that are joined, each side
 first_of_two : (xs ys : List (List ℕ)) (values others : Values) → AgreeOn (xs ++ ys) values others → AgreeOn xs values others
@@ -220,4 +176,16 @@ pub asked_is_enough : AskedIsEnough
 asked_is_enough = record {
   filters = λ filter values others agree. all_enough filter values others (in_order (names_in filter) values others agree);
   texts = λ text values others agree. text_same values others text (in_order (names_in_text text) values others agree);
+}
+
+-- ---- names rise
+
+each_once : (names : List (List ℕ)) → AreEachOnce names (in_byte_order names)
+each_once names = record { rising = each_once_rises names; members = each_once_members names }
+
+pub names_rise : NamesRise
+names_rise = record {
+  filters = λ filter. each_once (names_in filter);
+  texts = λ text. each_once (names_in_text text);
+  left = λ reduced. each_once (kept_names reduced);
 }

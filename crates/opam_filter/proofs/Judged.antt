@@ -110,11 +110,11 @@ abbrev pub IsApart : {A : Type 0} → Node → (A → Value) → Type 0
 IsApart {A} node made = (x : A) → node.value ≡ made x → ⊥
 
 -- in braces as a filter
-abbrev IsFilterThere : Node → Type 0
+abbrev pub IsFilterThere : Node → Type 0
 IsFilterThere node = (judged node).filter ≡ (judged node).braces
 
 -- where the two roles judge a layer alike
-filter_there : (node : Node) (layer : Value-F Value Node) → node.value ≡ roll-Value layer
+pub filter_there : (node : Node) (layer : Value-F Value Node) → node.value ≡ roll-Value layer
     → filter_role (shape_of layer) node.span ≡ braces_role (shape_of layer) node.span → IsFilterThere node
 filter_there node layer is alike =
     let same = judged_as node layer is in

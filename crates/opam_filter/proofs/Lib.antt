@@ -5,14 +5,15 @@ pub mod Cuts
 pub mod PlusParts
 pub mod TextLaws
 pub mod AskedLaws
-pub mod NameRises
 pub mod Searching
 pub mod Moves
 pub mod ReducedLaws
 pub mod DroppedLaws
+pub mod WholeLaws
 pub mod MonotoneLaws
 pub mod Earliest
 pub mod Utf8
 pub mod Judged
+pub mod Unconstrained
 pub mod Built
 pub mod FirstFault

@@ -144,9 +144,9 @@ side_role (Value-F.And nodes) span = no_filter (of_filters nodes) span
 side_role (Value-F.Or nodes) span = no_filter (of_filters nodes) span
 side_role (Value-F.Env op left right) span = no_filter (earlier left.filter right.filter) span
 
--- `!` and `?` may not stand over a constraint on the version
+-- `!` and `?` may not stand over a constraint on the version; what stands under them is judged as in braces
 abbrev pub negation : Judged → Span → Option FilterFault
-negation node span = earlier (if node.constrains then Some (NegatedVersion span) else None) node.filter
+negation node span = earlier (if node.constrains then Some (NegatedVersion span) else None) node.braces
 
 -- the same in braces
 abbrev pub braces_group : List Judged → Span → Option FilterFault

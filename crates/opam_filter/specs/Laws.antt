@@ -8,10 +8,11 @@ use Rattle.std.specs.declared.option.Option.TheVariants.{None, Some}
 use Rattle.opam_names.specs.Names.{is_name}
 use Rattle.opam_names.specs.declared.packages.Pkg.{Pkg}
 use Rattle.opam_syntax.specs.declared.tree.Var.{Var}
-use Rattle.opam_filter.specs.Asked.{asked, asked_in}
+use Rattle.opam_names.specs.ByteOrders.{RisesBy}
+use Rattle.opam_filter.specs.Asked.{asked, asked_in, names_in, names_in_text}
 use Rattle.opam_filter.specs.Faults.{comes_before, earlier, earliest}
-use Rattle.opam_filter.specs.Reductions.{is_kept, reduced, test_of}
-use Rattle.opam_filter.specs.Sets.{holds, is_met_by}
+use Rattle.opam_filter.specs.Reductions.{is_kept, is_left, reduced, test_of}
+use Rattle.opam_filter.specs.Sets.{holds, is_met_by, kept_names, names}
 use Rattle.opam_filter.specs.Texts.{Hole, Parts, closed, expanded, opened, parts_of}
 use Rattle.opam_filter.specs.Values.{filter_value}
 use Rattle.opam_filter.specs.Variables.{Values}
@@ -143,3 +144,28 @@ pub record IsTold (faults : List (Option FilterFault)) : Type 0 where
 pub record FirstFaultIsTold : Type 0 where
   pub told : (faults : List (Option FilterFault)) → IsTold faults
   pub grouped : (faults others : List (Option FilterFault)) → earliest (faults ++ others) ≡ earlier (earliest faults) (earliest others)
+
+-- names that are found stand in the order of their bytes, each once, and are those of the plain list
+pub record AreEachOnce (plain found : List (List ℕ)) : Type 0 where
+  pub rising : RisesBy (λ name. name) found
+  pub members : (name : List ℕ) → list_any (bytes_eq name) found ≡ list_any (bytes_eq name) plain
+
+-- so are the names that a filter or a text asks for, and those of what is left of a formula
+pub record NamesRise : Type 0 where
+  pub filters : (filter : Filter) → AreEachOnce (names_in filter) (asked filter)
+  pub texts : (text : List ℕ) → AreEachOnce (names_in_text text) (asked_in text)
+  pub left : (reduced : Reduced) → AreEachOnce (kept_names reduced) (names reduced)
+
+-- whether nothing in it was dropped
+abbrev pub layer_whole : Reduced-F Bool → Bool
+layer_whole Reduced-F.Dropped = false
+layer_whole (Reduced-F.And parts) = list_all (λ part. part) parts
+layer_whole (Reduced-F.Or parts) = list_all (λ part. part) parts
+layer_whole (Reduced-F.Atom name test) = true
+
+abbrev pub is_whole : Reduced → Bool
+is_whole = fold-Reduced Bool layer_whole
+
+-- a formula is dropped as a whole, or nothing that was dropped is left in it
+abbrev pub NothingIsDroppedInside : Type 0
+NothingIsDroppedInside = (values : Values) (formula : Formula) → is_left (reduced values formula) ≡ true → IsTrue (is_whole (reduced values formula))

@@ -1,13 +1,12 @@
 -- Names in the order of their bytes, each once. This project's own.
-use Rattle.std.specs.Prelude.{ℕ, List, [], fold}
+use Rattle.std.specs.Prelude.{ℕ, List}
 use Rattle.std.specs.BTreeSet.{insert_key}
-use Rattle.std.specs.Cmp.Lexicographic.{slice_cmp}
-use Rattle.std.specs.Ordering.{nat_cmp}
+use Rattle.opam_names.specs.ByteOrders.{byte_order, each_once}
 
--- a name more, if it is not there
+-- names with one more at its place
 abbrev pub with_name : List (List ℕ) → List ℕ → List (List ℕ)
-with_name names name = insert_key (slice_cmp nat_cmp) names name
+with_name names name = insert_key byte_order names name
 
--- names in that order
+-- names put at their places one after another
 abbrev pub in_byte_order : List (List ℕ) → List (List ℕ)
-in_byte_order names = fold with_name [] names
+in_byte_order names = each_once names

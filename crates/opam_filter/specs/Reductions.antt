@@ -54,11 +54,11 @@ abbrev pub at_version : List ℕ → RelOp → Option (List ℕ) → Truth
 at_version version op None = No
 at_version version op (Some right) = truth_of_flag (is_related op (text_order version right))
 
--- an atom is kept where its braces are Yes for any version
+-- an atom is kept where its braces are Yes with every constraint on the version counted as true
 abbrev pub is_kept : Test → Bool
 is_kept test = is_yes (test_truth any_version test)
 
--- and is met by a version where they are Yes for that one
+-- and is met by a version where they are Yes at that one
 abbrev pub is_met : Test → List ℕ → Bool
 is_met test version = is_yes (test_truth (at_version version) test)
 

@@ -1,11 +1,7 @@
 -- What a set of packages meets, and what one package does (opam manual, package formulas).
 use Rattle.std.specs.Prelude.{ℕ, List, [], ◌∷◌, map, Bool, true, false, bytes_eq, ◌&&◌}
 use Rattle.std.specs.List.{flat_map, list_all, list_any}
-use Rattle.std.specs.List.Sorted.{IsStrictlySortedBy}
-use Rattle.std.specs.Cmp.Lexicographic.{slice_cmp}
-use Rattle.std.specs.Ordering.{nat_cmp}
-use Rattle.std.specs.declared.cmp.Ordering.{Ordering}
-use Rattle.std.specs.declared.cmp.Ordering.TheVariants.{Less, Equal, Greater}
+use Rattle.opam_names.specs.ByteOrders.{RisesBy}
 use Rattle.opam_names.specs.declared.packages.Pkg.{Pkg}
 use Rattle.opam_filter.specs.NameSets.{in_byte_order}
 use Rattle.opam_filter.specs.Reductions.{is_met}
@@ -70,14 +66,4 @@ atoms = fold-Formula (List Formula) layer_atoms
 
 -- each name comes before those after it in the order of bytes, so each stands there once
 abbrev pub Rises : List Pkg → Type 0
-Rises set = IsStrictlySortedBy (slice_cmp nat_cmp) (map (λ pkg. pkg.name) set)
-
--- the first comes before the second
-abbrev pub is_less : Ordering → Bool
-is_less Less = true
-is_less Equal = false
-is_less Greater = false
-
--- whether the name of the first comes before that of the second
-abbrev pub comes_first : Pkg → Pkg → Bool
-comes_first one other = is_less (slice_cmp nat_cmp one.name other.name)
+Rises set = RisesBy (λ pkg. pkg.name) set

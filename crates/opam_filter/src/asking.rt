@@ -8,7 +8,7 @@ ghost use Rattle.opam_filter.specs.NameSets.{with_name};
 use crate::Filter;
 use crate::parts::{are_joined, scope_parts};
 use crate::texts::{asked_for, first_hole};
-use opam_names::{Items, Name, OutOfMemory, ReadFault};
+use opam_names::{Items, NAME_LIMIT, Name, OutOfMemory, ReadFault};
 use opam_syntax::Var;
 use std::alloc::Global;
 use std::collections::BTreeSet;
@@ -108,7 +108,7 @@ fn add_names(alloc: Global, parts: &[&str], names: &mut BTreeSet<Name>) -> Resul
 fn add_name(alloc: Global, text: &str, names: &mut BTreeSet<Name>) -> Result<(), OutOfMemory>
     ensures { OnOk result (names.new.keys ≡ fold with_name names.old.keys (filter is_name (text.now ∷ []))) }
 {
-    if text.len() > 120 {
+    if text.len() > NAME_LIMIT {
         return Ok(());
     }
     match Name::read(alloc, text.as_bytes()) {

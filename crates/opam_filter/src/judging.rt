@@ -5,7 +5,8 @@ ghost use Rattle.opam_filter.specs.Faults.{judged};
 
 use crate::FilterFault;
 use crate::earlier::earlier;
-use crate::text_tests::{is_name, is_text};
+use crate::text_tests::is_text;
+use opam_names::Name;
 use opam_syntax::{Node, Span, Value};
 
 fn no_filter(parts: Option<FilterFault>, span: Span) -> Option<FilterFault>
@@ -27,7 +28,7 @@ fn text_fault(bytes: &[u8], span: Span) -> Option<FilterFault>
 fn name_text_fault(bytes: &[u8], span: Span) -> Option<FilterFault>
     ensures { result ≡ faults.name_fault bytes.now span }
 {
-    if is_name(bytes) {
+    if Name::is_name(bytes) {
         None
     } else {
         Some(FilterFault::BadName { span })
@@ -137,18 +138,6 @@ fn some_constrains(nodes: &[Node]) -> bool
     false
 }
 
-// Of what stands under `!` or `?` in braces.
-fn negation_fault(node: &Node, span: Span) -> Option<FilterFault>
-    ensures { result ≡ faults.negation (judged node.now) span }
-{
-    let over = if constrains(node) {
-        Some(FilterFault::NegatedVersion { span })
-    } else {
-        None
-    };
-    earlier(over, filter_fault(node))
-}
-
 // Of the right side of a constraint on the version.
 fn version_fault(node: &Node) -> Option<FilterFault>
     ensures { result ≡ (judged node.now).version }
@@ -187,6 +176,19 @@ fn all_braces_fault(nodes: &[Node]) -> Option<FilterFault>
         first = earlier(first, braces_fault(node));
     }
     first
+}
+
+// Of what stands under `!` or `?` in braces.
+#[cycle(brace)]
+fn negation_fault(node: &Node, span: Span) -> Option<FilterFault>
+    ensures { result ≡ faults.negation (judged node.now) span }
+{
+    let over = if constrains(node) {
+        Some(FilterFault::NegatedVersion { span })
+    } else {
+        None
+    };
+    earlier(over, braces_fault(node))
 }
 
 // Of what stands before braces.

@@ -35,7 +35,9 @@ pub use fault::FilterFault;
 pub use fault_laws::the_first_fault_is_told;
 pub use filter::Filter;
 pub use formula::{Braces, Formula, Reduced, Test};
-pub use formula_laws::{dropped_holds, holding_is_monotone, reducing_says_the_same};
+pub use formula_laws::{
+    dropped_holds, holding_is_monotone, nothing_is_dropped_inside, reducing_says_the_same,
+};
 pub use meeting::{holds, meets, names};
 pub use opam_syntax::{RelOp, Var};
 pub use reading::{read_filter, read_formula};
@@ -43,5 +45,5 @@ pub use reducing::reduce;
 pub use rising::rises;
 pub use separating::atoms;
 pub use truth::{Truth, VarValue};
-pub use value_laws::{asked_is_enough, texts_are_cut};
+pub use value_laws::{asked_is_enough, names_rise, texts_are_cut};
 pub use vars::Vars;

@@ -4,8 +4,7 @@ ghost use Rattle.std.specs.List.{list_all};
 ghost use Rattle.opam_syntax.specs.Words.{scope_parts};
 ghost use Rattle.opam_filter.specs.Scopes.{is_package_part};
 
-use crate::text_tests::is_name;
-use opam_names::OutOfMemory;
+use opam_names::{Name, OutOfMemory};
 use std::alloc::Global;
 
 /// What stands between the `+` of a scope.
@@ -25,5 +24,5 @@ pub(crate) fn are_joined(parts: &[&str]) -> bool
 fn is_package_part(part: &str) -> bool
     ensures { result ≡ is_package_part part.now }
 {
-    part == "_" || is_name(part.as_bytes())
+    part == "_" || Name::is_name(part.as_bytes())
 }

@@ -14,7 +14,7 @@ use sqlite_items::Items;
 use std::alloc::Global;
 
 /// What is left of a formula where variables have these values: each filter is answered, and the atoms whose braces are
-/// not true, for any version, are left out (opam manual, package formulas).
+/// not true, with every constraint on the version counted as true, are left out (opam manual, package formulas).
 #[cycle(reduce)]
 pub fn reduce(alloc: Global, formula: &Formula, vars: &Vars) -> Result<Reduced, OutOfMemory>
     ensures { IfOk result (λ left. left ≡ reduced vars.now formula.now) }

@@ -4,7 +4,7 @@ ghost use Rattle.std.specs.Prelude.{◌≡◌, IfOk, map};
 ghost use Rattle.opam_filter.specs.Scopes.{all_in, enable_value, joined_value, scoped, value_at};
 ghost use Rattle.opam_filter.specs.Truths.{truth_of};
 
-use crate::copies::scoped;
+use crate::copies::{plain, word_of};
 use crate::parts::{are_joined, scope_parts};
 use crate::truths::{both, known_truth, value_of};
 use crate::{Truth, VarValue, Vars};
@@ -36,17 +36,8 @@ fn own_value(alloc: Global, vars: &Vars, variable: &Var) -> Result<Option<VarVal
     ensures { IfOk result (λ value. value ≡ map.get vars.now variable.now) }
 {
     match vars.value(variable) {
-        Some(value) => Ok(Some(copy_value(alloc, value)?)),
+        Some(value) => Ok(Some(value.copy(alloc)?)),
         None => Ok(None),
-    }
-}
-
-fn copy_value(alloc: Global, value: &VarValue) -> Result<VarValue, OutOfMemory>
-    ensures { IfOk result (λ copy. copy ≡ value.now) }
-{
-    match value {
-        VarValue::Flag(flag) => Ok(VarValue::Flag(*flag)),
-        VarValue::Text(text) => Ok(VarValue::Text(text.copy(alloc)?)),
     }
 }
 
@@ -82,17 +73,26 @@ fn enable_value(alloc: Global, truth: Truth) -> Result<Option<VarValue>, OutOfMe
 fn all_in(alloc: Global, vars: &Vars, name: &str, parts: &[&str]) -> Result<Truth, OutOfMemory>
     ensures { IfOk result (λ truth. truth ≡ all_in vars.now name.now (map (λ part. part.now) parts.now)) }
 {
+    let mut variable = plain(alloc, name)?;
     let mut truth = Truth::Yes;
     for part in parts {
-        truth = both(truth, truth_in(alloc, vars, part, name)?);
+        truth = both(truth, truth_in(alloc, vars, part, &mut variable)?);
     }
     Ok(truth)
 }
 
-fn truth_in(alloc: Global, vars: &Vars, scope: &str, name: &str) -> Result<Truth, OutOfMemory>
-    ensures { IfOk result (λ truth. truth ≡ truth_of (map.get vars.now (scoped scope.now name.now))) }
+// Of the variable with this scope in place of its own.
+fn truth_in(
+    alloc: Global,
+    vars: &Vars,
+    scope: &str,
+    variable: &mut Var,
+) -> Result<Truth, OutOfMemory>
+    ensures truth { IfOk result (λ truth. truth ≡ truth_of (map.get vars.now (scoped scope.now variable.old.name))) }
+    ensures name { variable.new.name ≡ variable.old.name }
 {
-    match vars.value(&scoped(alloc, scope, name)?) {
+    variable.scope = Some(word_of(alloc, scope)?);
+    match vars.value(variable) {
         Some(value) => Ok(known_truth(value)),
         None => Ok(Truth::Undefined),
     }

@@ -1,7 +1,11 @@
 use Rattle.std.proofs.Common.{ap, arith}
 use Rattle.opam_filter.specs.Trees.{read}
 use Rattle.opam_filter.proofs.Built.{lone_braces, read_lone, as_well}
+use Rattle.opam_filter.proofs.Unconstrained.{filter_in_braces}
 use Rattle.opam_filter.proofs.building.+build_braces.Goals as goal
+
+pub build_braces-build_filter-requires-in_default : goal.build_braces-build_filter-requires-in_default
+build_braces-build_filter-requires-in_default t c = filter_in_braces c.args.node.now c.requires c.in_default.not-Group c.in_default.not-PreRel c.in_default.not-And c.in_default.not-Or
 
 pub build_braces-unreachable-requires : goal.build_braces-unreachable-requires
 build_braces-unreachable-requires t c =
