@@ -1,6 +1,7 @@
 #!/bin/sh
-# Installs the lock of examples/sample in a fresh folder. Prints what the program prints, its status, and the files that
-# it leaves, the same on each machine: compare it with examples/expected.
+# Installs the lock of examples/sample in a fresh folder: `hello` is built by its commands, which make a program and the
+# `.install` file that names it. Prints what the program prints, its status, the files that it leaves but for the build
+# folders, and what the installed program prints, the same on each machine: compare it with examples/expected.
 set -eu
 top=$(cd "$(dirname "$0")/.." && pwd)
 program=$(sh "$top/examples/program.sh")
@@ -13,5 +14,8 @@ status=0
 "$program" install --lock-file lock 2>&1 || status=$?
 echo "status $status"
 if [ -d _opam ]; then
-    find _opam -type f | LC_ALL=C sort
+    find _opam -path _opam/.opam-switch/build -prune -o -type f -print | LC_ALL=C sort
+fi
+if [ -x _opam/bin/hello ]; then
+    _opam/bin/hello
 fi

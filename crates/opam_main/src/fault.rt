@@ -18,8 +18,12 @@ pub enum FileError {
     NoFile,
     #[error("there are files below the path")]
     NotEmpty,
-    #[error("an earlier sync has failed")]
+    #[error("an earlier write or sync has failed")]
     NotSynced,
+    #[error("a link leads out of the source")]
+    LeadsOut,
+    #[error("the source is a part of the switch that holds the build folder")]
+    HoldsBuild,
 }
 
 impl From<OutOfMemory> for FileError {

@@ -28,26 +28,29 @@ pub fn found_at<R: Files>(rt: &R, path: &str) -> Result<Option<Metadata>, FileEr
 }
 
 /// Reads the file at a path, if it has at most `limit` bytes. Links are followed, and one that leads nowhere is an
-/// error.
+/// error. Only a regular file is opened, since a pipe might never answer.
 pub fn read_file<R: Files>(
     rt: &R,
     alloc: Global,
     path: &str,
     limit: u64,
 ) -> Result<Content, FileError> {
-    let file = match fs::open(rt, path) {
-        Ok(file) => file,
-        Err(error) => {
-            if error.kind() == ErrorKind::NotFound && found_at(rt, path)?.is_none() {
-                return Ok(Content::Absent);
-            }
-            return Err(FileError::Io(error));
-        }
-    };
+    if found_at(rt, path)?.is_none() {
+        return Ok(Content::Absent);
+    }
+    let file = open_regular(rt, path)?;
     let mut bytes = Vec::new(alloc);
     let count = file.take(limit.saturating_add(1)).read_to_end(&mut bytes)?;
     if count as u64 > limit {
         return Ok(Content::TooLong);
     }
     Ok(Content::Bytes(bytes))
+}
+
+/// Opens the regular file at a path, or at the end of the links there. All else is an error.
+pub fn open_regular<R: Files>(rt: &R, path: &str) -> Result<R::File, FileError> {
+    if !fs::metadata(rt, path)?.is_file() {
+        return Err(FileError::NoFile);
+    }
+    Ok(fs::open(rt, path)?)
 }

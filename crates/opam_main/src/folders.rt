@@ -7,7 +7,10 @@ use crate::fault::FileError;
 use crate::files::found_at;
 use std::alloc::{AllocError, Global};
 use std::fs;
+use std::fs::{DirEntry, Permissions};
+use std::io;
 use std::io::ErrorKind;
+use std::os::unix::fs::PermissionsExt;
 use std::rt::Files;
 
 /// The path of what stands below a folder.
@@ -31,11 +34,23 @@ pub fn folder_of(path: &str) -> &str
     }
 }
 
-/// Whether each folder stands on the way to a path, from the root on. What stands there and is no folder is an error.
+/// Whether a path is that of a folder, or of what stands below it. Neither has a link on the way or ends in a slash.
+pub fn is_in(path: &str, folder: &str) -> bool {
+    match path.strip_prefix(folder) {
+        Some(rest) => rest.is_empty() || rest.starts_with('/'),
+        None => false,
+    }
+}
+
+/// Whether each folder stands on the way to a path, from the root on. A file or a link on the way is no folder; in place
+/// of the root itself it is an error.
 pub fn way_stands<R: Files>(rt: &R, root: &str, path: &str) -> Result<bool, FileError> {
+    if !is_folder(rt, root)? {
+        return Ok(false);
+    }
     for end in root.len()..path.len() {
         if let Some(folder) = folder_to(path, end)
-            && !is_folder(rt, folder)?
+            && !is_real_folder(rt, folder)?
         {
             return Ok(false);
         }
@@ -44,7 +59,7 @@ pub fn way_stands<R: Files>(rt: &R, root: &str, path: &str) -> Result<bool, File
 }
 
 /// Makes the folders that are missing on the way to a path, from the root on, and adds each to the list before it is
-/// made.
+/// made. A file or a link on the way is an error.
 pub fn make_way<R: Files>(
     rt: &R,
     alloc: Global,
@@ -74,6 +89,18 @@ fn folder_to(path: &str, end: usize) -> Option<&str>
     }
 }
 
+/// Whether a folder stands at a path, and no link.
+pub fn is_real_folder<R: Files>(rt: &R, path: &str) -> Result<bool, FileError> {
+    match fs::symlink_metadata(rt, path) {
+        Ok(data) => Ok(data.is_dir()),
+        Err(error) => match error.kind() {
+            ErrorKind::NotFound | ErrorKind::NotADirectory => Ok(false),
+            _ => Err(FileError::Io(error)),
+        },
+    }
+}
+
+// What is there and is no folder is an error.
 fn is_folder<R: Files>(rt: &R, path: &str) -> Result<bool, FileError> {
     match found_at(rt, path)? {
         None => Ok(false),
@@ -99,7 +126,8 @@ fn make_folder<R: Files>(rt: &R, path: &str) -> Result<(), FileError> {
     }
 }
 
-/// The folders of a tree, each before those in it, or `None` where some file is in the tree.
+/// The folders of a tree, each before those in it, or `None` where some file is in the tree. What has a name that is not
+/// UTF-8 counts as a file.
 pub fn bare_folders<R: Files + Alloc + Clone + Drop>(
     rt: &R,
     alloc: Global,
@@ -127,11 +155,82 @@ fn add_folders<R: Files + Alloc + Clone + Drop>(
     folders: &mut Vec<String>,
 ) -> Result<bool, FileError> {
     for entry in fs::read_dir(rt, folder)? {
-        let entry = entry?;
-        if !entry.file_type()?.is_dir() {
-            return Ok(true);
+        match named(entry)? {
+            Some(entry) if entry.file_type()?.is_dir() => {
+                folders.push(String::from_str(alloc, entry.path().as_str())?)?;
+            }
+            _ => return Ok(true),
         }
-        folders.push(String::from_str(alloc, entry.path().as_str())?)?;
     }
     Ok(false)
+}
+
+/// An entry of a folder, or `None` where its name is not UTF-8.
+pub fn named<R: Files + Alloc>(
+    entry: io::Result<DirEntry<R, R::A>>,
+) -> Result<Option<DirEntry<R, R::A>>, FileError> {
+    match entry {
+        Ok(entry) => Ok(Some(entry)),
+        Err(error) => {
+            if error.kind() == ErrorKind::InvalidFilename {
+                return Ok(None);
+            }
+            Err(FileError::Io(error))
+        }
+    }
+}
+
+/// Removes what stands at a path, a folder with all that is in it. Folders that may not be written to are made writable
+/// first, but for those whose names are not UTF-8.
+pub fn remove_all<R: Files + Alloc + Clone + Drop>(
+    rt: &R,
+    alloc: Global,
+    path: &str,
+) -> Result<(), FileError> {
+    match found_at(rt, path)? {
+        None => Ok(()),
+        Some(data) if data.is_dir() => {
+            open_up(rt, alloc, path)?;
+            Ok(fs::remove_dir_all(rt, path)?)
+        }
+        Some(_) => Ok(fs::remove_file(rt, path)?),
+    }
+}
+
+// Gives the owner each right on the folders of a tree.
+fn open_up<R: Files + Alloc + Clone + Drop>(
+    rt: &R,
+    alloc: Global,
+    top: &str,
+) -> Result<(), FileError> {
+    let mut folders = Vec::new(alloc);
+    folders.push(String::from_str(alloc, top)?)?;
+    for _ in 0..u64::MAX {
+        let Some(folder) = folders.pop() else {
+            break;
+        };
+        let mode = fs::symlink_metadata(rt, folder.as_str())?.permissions().mode();
+        if mode & 0o700 != 0o700 {
+            fs::set_permissions(rt, folder.as_str(), Permissions::from_mode(mode | 0o700))?;
+        }
+        list_folders(rt, alloc, folder.as_str(), &mut folders)?;
+    }
+    Ok(())
+}
+
+// Adds the folders in a folder to the list.
+fn list_folders<R: Files + Alloc + Clone + Drop>(
+    rt: &R,
+    alloc: Global,
+    folder: &str,
+    folders: &mut Vec<String>,
+) -> Result<(), FileError> {
+    for entry in fs::read_dir(rt, folder)? {
+        if let Some(entry) = named(entry)?
+            && entry.file_type()?.is_dir()
+        {
+            folders.push(String::from_str(alloc, entry.path().as_str())?)?;
+        }
+    }
+    Ok(())
 }

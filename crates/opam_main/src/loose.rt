@@ -1,65 +1,71 @@
-// What a sync of a switch has to write to the device.
-ghost use Rattle.std.specs.Prelude.{◌≡◌, ◌<◌, ◌≤◌, true, false, IsTrue, OnOk, OnErr, length};
+// What a sync of a switch has to write to the device. Each file is written to the device where it is put; a sync does the
+// same for the folders whose entries have come or gone.
+ghost use Rattle.std.specs.Prelude.{◌≡◌, ◌<◌, ◌≤◌, true, false, IsTrue, OnOk, OnErr, length, string_bytes, string_len};
 ghost use Rattle.std.specs.BTreeSet.{contains_text, IsEmpty};
 ghost use Rattle.opam_main.specs.Folders.{folder_of};
 ghost use Rattle.opam_main.specs.Loose.{Has, KeepsAll, KeepsOthers};
 
 use crate::fault::FileError;
-use crate::folders::folder_of;
+use crate::folders::{folder_of, is_real_folder};
 use std::alloc::{AllocError, Global};
 use std::collections::BTreeSet;
+use std::fs;
 use std::fs::OpenFile;
-use std::io::ErrorKind;
 use std::rt::Files;
-use std::{fs, io};
 
-/// The files and folders of a switch that have changed since the last sync.
+/// The folders of a switch that have changed since the last sync.
 #[derive(Drop)]
 pub struct Loose {
     alloc: Global,
     root_len: usize,
-    // put or removed
-    files: BTreeSet<String>,
     // an entry of theirs has come or gone
     folders: BTreeSet<String>,
     // folders below the root whose own entry is durable
     settled: BTreeSet<String>,
-    is_root_new: bool,
-    // a change is not noted, or a sync has failed: the system may forget what it could not write
+    // so is that of the root
+    is_root_settled: bool,
+    // a change is not noted, or a write or a sync has failed: the system may forget what it could not write
     is_lost: bool,
 }
 
 impl Loose {
-    /// For a switch whose root's path has so many bytes.
+    /// For a switch whose root's path has so many bytes. Nothing is known of what an earlier run has made durable.
     pub fn new(alloc: Global, root_len: usize) -> Loose
         ensures root { result.root_len ≡ root_len }
-        ensures files { IsEmpty result.files }
         ensures folders { IsEmpty result.folders }
         ensures settled { IsEmpty result.settled }
-        ensures root_known { result.is_root_new ≡ false }
+        ensures root_not_settled { result.is_root_settled ≡ false }
         ensures not_lost { result.is_lost ≡ false }
     {
         Loose {
             alloc,
             root_len,
-            files: BTreeSet::new(alloc),
             folders: BTreeSet::new(alloc),
             settled: BTreeSet::new(alloc),
-            is_root_new: false,
+            is_root_settled: false,
             is_lost: false,
         }
     }
 
-    /// A file is to be put or removed.
-    pub fn file_changed(&mut self, path: &str) -> Result<(), AllocError>
-        ensures noted { OnOk result (Has self.new.files path.now) }
-        ensures folder { OnOk result (0 < length path.now → Has self.new.folders (folder_of path.now)) }
-        ensures files { KeepsAll self.old.files self.new.files }
+    /// A folder stands there since an earlier run, and its entries may not be durable.
+    pub fn folder_found(&mut self, folder: String) -> Result<(), AllocError>
+        ensures noted { OnOk result (Has self.new.folders (string_bytes folder)) }
+        ensures above { OnOk result (0 < string_len folder → Has self.new.folders (folder_of (string_bytes folder))) }
         ensures folders { KeepsAll self.old.folders self.new.folders }
-        ensures same { self.new ≡ record self.old { files = self.new.files; folders = self.new.folders } }
+        ensures same { self.new ≡ record self.old { folders = self.new.folders } }
     {
-        self.add_folders(path)?;
-        add_path(self.alloc, &mut self.files, path)
+        self.add_folders(folder.as_str())?;
+        self.folders.insert(folder)?;
+        Ok(())
+    }
+
+    /// The entry of a file is to come or to go.
+    pub fn file_changed(&mut self, path: &str) -> Result<(), AllocError>
+        ensures folder { OnOk result (0 < length path.now → Has self.new.folders (folder_of path.now)) }
+        ensures folders { KeepsAll self.old.folders self.new.folders }
+        ensures same { self.new ≡ record self.old { folders = self.new.folders } }
+    {
+        self.add_folders(path)
     }
 
     /// A folder has been made. It may be the root.
@@ -67,16 +73,14 @@ impl Loose {
         ensures folder { OnOk result (0 < length path.now → Has self.new.folders (folder_of path.now)) }
         ensures err { OnErr result (self.new.is_lost ≡ true) }
         ensures lost { IsTrue self.old.is_lost → IsTrue self.new.is_lost }
-        ensures root { length path.now ≤ self.old.root_len → self.new.is_root_new ≡ true }
+        ensures root { length path.now ≤ self.old.root_len → self.new.is_root_settled ≡ false }
         ensures not_settled { contains_text self.new.settled path.now ≡ false }
-        ensures files { KeepsOthers path.now self.old.files self.new.files }
         ensures folders { KeepsAll self.old.folders self.new.folders }
     {
         if path.len() <= self.root_len {
-            self.is_root_new = true;
+            self.is_root_settled = false;
         }
         self.settled.remove(path);
-        self.files.remove(path);
         self.entry_changed(path)
     }
 
@@ -86,12 +90,18 @@ impl Loose {
         ensures err { OnErr result (self.new.is_lost ≡ true) }
         ensures lost { IsTrue self.old.is_lost → IsTrue self.new.is_lost }
         ensures not_settled { contains_text self.new.settled path.now ≡ false }
-        ensures files { self.new.files ≡ self.old.files }
         ensures folders { KeepsOthers path.now self.old.folders self.new.folders }
     {
         self.settled.remove(path);
         self.folders.remove(path);
         self.entry_changed(path)
+    }
+
+    /// A write has failed: no later sync can say that all is durable.
+    pub fn lose(&mut self)
+        ensures { self.new ≡ record self.old { is_lost = true } }
+    {
+        self.is_lost = true;
     }
 
     // The change is done whether it is noted or not.
@@ -129,42 +139,35 @@ impl Loose {
 
     fn is_settled(&self, folder: &str) -> bool {
         if folder.len() <= self.root_len {
-            return !self.is_root_new;
+            return self.is_root_settled;
         }
         self.settled.contains(folder)
     }
 
-    /// Makes each of them durable.
+    /// Makes the entries of each of the folders durable.
     pub fn sync<R: Files>(&mut self, rt: &R) -> Result<(), FileError>
         ensures was_not_lost { OnOk result (self.old.is_lost ≡ false) }
         ensures not_lost { OnOk result (self.new.is_lost ≡ false) }
-        ensures files { OnOk result (IsEmpty self.new.files) }
+        ensures root { OnOk result (self.new.is_root_settled ≡ true) }
         ensures err { OnErr result (self.new.is_lost ≡ true) }
     {
         if self.is_lost {
             return Err(FileError::NotSynced);
         }
-        if let Err(error) = self.sync_all(rt) {
+        if let Err(error) = sync_each(rt, &self.folders) {
             self.is_lost = true;
-            return Err(FileError::Io(error));
+            return Err(error);
         }
         self.settle();
         Ok(())
     }
 
-    fn sync_all<R: Files>(&self, rt: &R) -> io::Result<()> {
-        sync_each(rt, &self.files)?;
-        sync_each(rt, &self.folders)
-    }
-
     // All is durable. Folders for which there is no memory are synced once more.
     fn settle(&mut self)
-        ensures files { IsEmpty self.new.files }
-        ensures root { self.new.is_root_new ≡ false }
+        ensures root { self.new.is_root_settled ≡ true }
         ensures lost { self.new.is_lost ≡ self.old.is_lost }
     {
-        self.files.clear();
-        self.is_root_new = false;
+        self.is_root_settled = true;
         let _ = self.settled.append(&mut self.folders);
     }
 }
@@ -178,20 +181,18 @@ fn add_path(alloc: Global, paths: &mut BTreeSet<String>, path: &str) -> Result<(
     Ok(())
 }
 
-fn sync_each<R: Files>(rt: &R, paths: &BTreeSet<String>) -> io::Result<()> {
-    for path in paths.iter() {
-        sync_path(rt, path.as_str())?;
+fn sync_each<R: Files>(rt: &R, folders: &BTreeSet<String>) -> Result<(), FileError> {
+    for folder in folders.iter() {
+        sync_folder(rt, folder.as_str())?;
     }
     Ok(())
 }
 
-// What has gone again needs no sync but its folder's.
-fn sync_path<R: Files>(rt: &R, path: &str) -> io::Result<()> {
-    match fs::open(rt, path) {
-        Ok(file) => file.sync_all(),
-        Err(error) => match error.kind() {
-            ErrorKind::NotFound | ErrorKind::NotADirectory => Ok(()),
-            _ => Err(error),
-        },
+// One that has gone again needs no sync but that of the folder above it. What stands in its place is not opened, since
+// a pipe might never answer.
+fn sync_folder<R: Files>(rt: &R, folder: &str) -> Result<(), FileError> {
+    if is_real_folder(rt, folder)? {
+        fs::open(rt, folder)?.sync_all()?;
     }
+    Ok(())
 }

@@ -8,6 +8,7 @@ mod files;
 mod folders;
 mod host;
 mod loose;
+mod source;
 mod start;
 mod streams;
 mod switch;
@@ -22,10 +23,10 @@ use start::{StartError, arguments, facts, switch_folder};
 use std::alloc::Global;
 use std::env::Env;
 use std::fs::File;
-use std::process::ExitCode;
+use std::process::{ExitCode, Processes};
 use std::rt::Files;
 use std::sync::Arc;
-use streams::OutSink;
+use streams::{OutSink, open_standard_streams};
 
 fn main(rt: HostRuntime) -> ExitCode {
     let alloc = rt.alloc();
@@ -60,7 +61,7 @@ fn main(rt: HostRuntime) -> ExitCode {
 }
 
 // What a run takes of this machine: the words, what is known, and the devices.
-struct Run<R: Files<File = File>> {
+struct Run<R: Files<File = File> + Processes> {
     words: Vec<String>,
     facts: Facts,
     host: FolderHost<R>,
@@ -68,10 +69,11 @@ struct Run<R: Files<File = File>> {
     disk: FolderDisk<R>,
 }
 
-fn prepare<R: Files<File = File> + Env + AllocGlobal + Clone + Drop>(
+fn prepare<R: Files<File = File> + Processes + Env + AllocGlobal + Clone + Drop>(
     rt: &R,
     alloc: Global,
 ) -> Result<Run<R>, StartError> {
+    open_standard_streams(rt).map_err(StartError::Streams)?;
     let words = arguments(rt, alloc)?;
     let prefix = switch_folder(rt, alloc)?;
     let facts = facts(rt, alloc, prefix.as_str())?;

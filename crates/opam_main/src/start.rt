@@ -14,6 +14,8 @@ use thiserror::Error;
 /// Why a run did not begin.
 #[derive(Debug, Drop, Error)]
 pub enum StartError {
+    #[error("the standard streams cannot be opened: {0}")]
+    Streams(io::Error),
     #[error("the arguments cannot be read: {0}")]
     Arguments(io::Error),
     #[error("the variable {0} is no UTF-8 text")]
@@ -55,7 +57,7 @@ impl StartError {
     {
         match self {
             StartError::Arguments(_) | StartError::Variable(_) => 2,
-            StartError::Folder(_) => 40,
+            StartError::Streams(_) | StartError::Folder(_) => 40,
             StartError::Memory => 98,
         }
     }

@@ -1,7 +1,9 @@
 // The folder of a switch. No path in it is followed through a link.
 use crate::fault::FileError;
 use crate::files::{Content, found_at, read_file};
-use crate::folders::{bare_folders, folder_of, make_way, path_below, way_stands};
+use crate::folders::{
+    bare_folders, folder_of, is_real_folder, make_way, named, path_below, way_stands,
+};
 use crate::loose::Loose;
 use crash_disk::{DiskRead, Look};
 use opam_names::{Items, RelPath};
@@ -13,6 +15,7 @@ use std::os::unix::fs::PermissionsExt;
 use std::rt::Files;
 
 const LOCK: &str = ".opam-switch/lock";
+const JOURNAL: &str = ".opam-switch/journal";
 
 /// The folder of a switch, with what is to be made durable of it.
 #[derive(Drop)]
@@ -21,6 +24,7 @@ pub struct SwitchFolder<R: Files<File = File>> {
     rt: R,
     root: String,
     loose: Loose,
+    knows_journal: bool,
     lock: Option<File>,
 }
 
@@ -33,6 +37,7 @@ impl<R: Files<File = File> + Alloc + Clone + Drop> SwitchFolder<R> {
             rt,
             root,
             loose,
+            knows_journal: false,
             lock: None,
         }
     }
@@ -48,7 +53,7 @@ impl<R: Files<File = File> + Alloc + Clone + Drop> SwitchFolder<R> {
         Ok(self.lock.is_some())
     }
 
-    /// What stands at a path. A link is a file.
+    /// What stands at a path. A link is a file, and nothing is below it.
     pub fn look(&self, path: &RelPath) -> Result<Look, FileError> {
         let full = path_below(self.alloc, self.root.as_str(), path.as_str())?;
         if !way_stands(&self.rt, self.root.as_str(), full.as_str())? {
@@ -66,7 +71,8 @@ impl<R: Files<File = File> + Alloc + Clone + Drop> SwitchFolder<R> {
         }
     }
 
-    /// The file at a path, if it has at most `limit` bytes. A folder is no file, and a link is an error.
+    /// The file at a path, if it has at most `limit` bytes. A folder is no file, nothing is below a file or a link, and
+    /// at a link or a special file it is an error.
     pub fn read(&self, alloc: Global, path: &RelPath, limit: u64) -> Result<DiskRead, FileError> {
         let full = path_below(self.alloc, self.root.as_str(), path.as_str())?;
         if !way_stands(&self.rt, self.root.as_str(), full.as_str())? {
@@ -91,18 +97,26 @@ impl<R: Files<File = File> + Alloc + Clone + Drop> SwitchFolder<R> {
         }
     }
 
-    /// Makes the file anew, in place of the file, the link or the folders without files that stand there.
+    /// Makes the file anew, in place of the file, the link or the folders without files that stand there. It is written
+    /// to the device at once. Its mode is 0755 if it is executable and 0644 if not, whatever the process masks, so that
+    /// a switch is the same on each machine.
     pub fn put(&mut self, path: &RelPath, bytes: &[u8], exec: bool) -> Result<(), FileError> {
+        self.meet_journal()?;
         let full = path_below(self.alloc, self.root.as_str(), path.as_str())?;
         self.make_folders(full.as_str())?;
         self.loose.file_changed(full.as_str())?;
         self.clear(full.as_str())?;
-        write_new(&self.rt, full.as_str(), bytes, exec)
+        let outcome = write_new(&self.rt, full.as_str(), bytes, exec);
+        if outcome.is_err() {
+            self.loose.lose();
+        }
+        outcome
     }
 
     /// Removes the file or the link at a path, if one is there, and then the folders above it that are empty, but for
-    /// the root.
+    /// the root. Nothing is below a file or a link.
     pub fn remove(&mut self, path: &RelPath) -> Result<(), FileError> {
+        self.meet_journal()?;
         let full = path_below(self.alloc, self.root.as_str(), path.as_str())?;
         // an earlier run may have removed it and not have synced
         self.loose.file_changed(full.as_str())?;
@@ -118,9 +132,43 @@ impl<R: Files<File = File> + Alloc + Clone + Drop> SwitchFolder<R> {
         }
     }
 
-    /// Makes all that was put and removed durable.
+    /// Makes all that was put and removed durable, and with the first sync the whole journal.
     pub fn sync(&mut self) -> Result<(), FileError> {
+        self.meet_journal()?;
         self.loose.sync(&self.rt)
+    }
+
+    // An earlier run may have been ended before it has synced what it has put into the journal.
+    fn meet_journal(&mut self) -> Result<(), FileError> {
+        if self.knows_journal {
+            return Ok(());
+        }
+        let outcome = self.write_journal();
+        match outcome {
+            Ok(()) => self.knows_journal = true,
+            Err(_) => self.loose.lose(),
+        }
+        outcome
+    }
+
+    // Writes each file of the journal to the device, and notes its folders for the next sync.
+    fn write_journal(&mut self) -> Result<(), FileError> {
+        let journal = path_below(self.alloc, self.root.as_str(), JOURNAL)?;
+        if !way_stands(&self.rt, self.root.as_str(), journal.as_str())? {
+            return Ok(());
+        }
+        let mut folders = Vec::new(self.alloc);
+        folders.push(journal)?;
+        for _ in 0..u64::MAX {
+            let Some(folder) = folders.pop() else {
+                break;
+            };
+            if is_real_folder(&self.rt, folder.as_str())? {
+                write_files(&self.rt, self.alloc, folder.as_str(), &mut folders)?;
+                self.loose.folder_found(folder)?;
+            }
+        }
+        Ok(())
     }
 
     fn make_folders(&mut self, full: &str) -> Result<(), FileError> {
@@ -191,5 +239,26 @@ fn write_new<R: Files>(rt: &R, path: &str, bytes: &[u8], exec: bool) -> Result<(
         .open(rt, path)?;
     file.write_all(bytes)?;
     file.set_permissions(Permissions::from_mode(mode))?;
+    file.sync_all()?;
+    Ok(())
+}
+
+// Writes each regular file of a folder to the device, and adds the folders in it to the list.
+fn write_files<R: Files + Alloc + Clone + Drop>(
+    rt: &R,
+    alloc: Global,
+    folder: &str,
+    folders: &mut Vec<String>,
+) -> Result<(), FileError> {
+    for entry in fs::read_dir(rt, folder)? {
+        if let Some(entry) = named(entry)? {
+            let kind = entry.file_type()?;
+            if kind.is_dir() {
+                folders.push(String::from_str(alloc, entry.path().as_str())?)?;
+            } else if kind.is_file() {
+                fs::open(rt, entry.path())?.sync_all()?;
+            }
+        }
+    }
     Ok(())
 }
