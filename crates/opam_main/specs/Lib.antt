@@ -1,3 +1,4 @@
+pub mod Commands
 pub mod Folders
 pub mod Loose
 pub mod Start

@@ -1,7 +1,8 @@
 // Build folders of the machine, and commands in them, as a workshop.
-ghost use Rattle.std.specs.Prelude.{◌≡◌, ◌∷◌, ◌++◌, ℕ, pos, IfOk, codes, map, true};
+ghost use Rattle.std.specs.Prelude.{◌≡◌, ℕ, pos, IfOk, codes, true};
 ghost use Rattle.std.specs.Process.{clears_env, command_args, command_dir, command_program, exit_code};
 ghost use Rattle.std.specs.declared.option.Option.TheVariants.{None, Some};
+ghost use Rattle.opam_main.specs.Commands.{sh_args};
 
 use crate::fault::FileError;
 use crate::files::{Content, read_file};
@@ -90,7 +91,7 @@ impl<R: Files + Processes + Alloc + Clone + Drop> ChildShop<R> {
 // A command of these words in a folder, with an empty environment.
 fn command_in(alloc: Global, folder: &str, words: &[Text]) -> Result<Command, AllocError>
     ensures program { IfOk result (λ command. command_program command ≡ codes "sh") }
-    ensures args { IfOk result (λ command. command_args command ≡ codes "-c" ∷ SCRIPT.now ∷ codes "sh" ∷ words.now) }
+    ensures args { IfOk result (λ command. command_args command ≡ sh_args words.now) }
     ensures env { IfOk result (λ command. clears_env command ≡ true) }
     ensures folder { IfOk result (λ command. command_dir command ≡ Some folder.now) }
 {
