@@ -1,6 +1,6 @@
 // What a sync of a switch has to write to the device. Each file is written to the device where it is put; a sync does the
 // same for the folders whose entries have come or gone.
-ghost use Rattle.std.specs.Prelude.{◌≡◌, ◌<◌, ◌≤◌, true, false, IsTrue, OnOk, OnErr, length, string_bytes, string_len};
+ghost use Rattle.std.specs.Prelude.{◌≡◌, ◌<◌, ◌≤◌, true, false, IsTrue, OnOk, OnErr, length};
 ghost use Rattle.std.specs.BTreeSet.{contains_text, IsEmpty};
 ghost use Rattle.opam_main.specs.Folders.{folder_of};
 ghost use Rattle.opam_main.specs.Loose.{Has, KeepsAll, KeepsOthers};
@@ -48,15 +48,14 @@ impl Loose {
     }
 
     /// A folder stands there since an earlier run, and its entries may not be durable.
-    pub fn folder_found(&mut self, folder: String) -> Result<(), AllocError>
-        ensures noted { OnOk result (Has self.new.folders (string_bytes folder)) }
-        ensures above { OnOk result (0 < string_len folder → Has self.new.folders (folder_of (string_bytes folder))) }
+    pub fn folder_found(&mut self, folder: &str) -> Result<(), AllocError>
+        ensures noted { OnOk result (Has self.new.folders folder.now) }
+        ensures above { OnOk result (0 < length folder.now → Has self.new.folders (folder_of folder.now)) }
         ensures folders { KeepsAll self.old.folders self.new.folders }
         ensures same { self.new ≡ record self.old { folders = self.new.folders } }
     {
-        self.add_folders(folder.as_str())?;
-        self.folders.insert(folder)?;
-        Ok(())
+        add_path(self.alloc, &mut self.folders, folder)?;
+        self.add_folders(folder)
     }
 
     /// The entry of a file is to come or to go.

@@ -165,7 +165,7 @@ impl<R: Files<File = File> + Alloc + Clone + Drop> SwitchFolder<R> {
             };
             if is_real_folder(&self.rt, folder.as_str())? {
                 write_files(&self.rt, self.alloc, folder.as_str(), &mut folders)?;
-                self.loose.folder_found(folder)?;
+                self.loose.folder_found(folder.as_str())?;
             }
         }
         Ok(())
