@@ -1,1 +1,4 @@
+pub mod Drains
 pub mod Fates
+pub mod Fits
+pub mod Promises

@@ -3,9 +3,21 @@
 #![tactic(auto)]
 
 mod crew;
+mod ends;
+mod hints;
+mod order;
+mod pool;
 mod serial;
 mod steps;
+#[cfg(test)]
+mod tests;
+mod threads;
 
 pub use crew::{Crew, Event};
+pub use ends::drain;
+pub use hints::Hints;
+pub use order::OrderCrew;
+pub use pool::{PoolCrew, Work};
 pub use serial::SerialCrew;
 pub use steps::build;
+pub use threads::{Child, FateOf, PoolParts};
