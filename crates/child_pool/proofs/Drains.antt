@@ -24,9 +24,6 @@ abbrev pub TakenIn : Option Told → Running → Running → List Event → List
 TakenIn shop old new before after first now =
     (count : ℕ) × (fates : List (ℕ × Fate)) × (count + length new ≡ length old) × (now ≡ first ++ fates) × Drained count shop old new before after fates
 
-pub none_in : (shop : Option Told) (old : Running) (before : List Event) (first : List (ℕ × Fate)) → first ≡ first ++ [] → TakenIn shop old old before before first first
-none_in shop old before first same = (0, [], refl, same, (refl, refl, refl))
-
 pub one_more : (shop here : Option Told) (old running new : Running) (before events after : List Event) (first then now : List (ℕ × Fate)) (result : Result (ℕ × Fate) OutOfMemory) → here ≡ shop → TakenIn shop old running before events first then → now ≡ then ++ known_fate result → TakesOne here running new events after result → TakenIn shop old new before after first now
 one_more shop here old running new before events after first then now result same so_far more takes =
     let fewer = one_fewer here running new events after result takes in
