@@ -23,17 +23,14 @@ for crate in opam_names outside_io child_pool; do
 done
 from=$top/crates/opam_main
 to=$work/crates/opam_main
-mkdir -p "$to/src" "$to/specs" "$to/proofs/folders"
+mkdir -p "$to/src" "$to/specs" "$to/proofs"
 for module in children fault files folders source; do
     cp "$from/src/$module.rt" "$to/src/"
 done
-cp "$from/specs/Folders.antt" "$to/specs/"
-echo 'pub mod Folders' >"$to/specs/Lib.antt"
+cp "$from/specs/Commands.antt" "$from/specs/Folders.antt" "$to/specs/"
+printf 'pub mod Commands\npub mod Folders\n' >"$to/specs/Lib.antt"
 cp -R "$from/proofs/Slashes.antt" "$from/proofs/Lib.antt" "$to/proofs/"
-cp -R "$from/proofs/folders" "$to/proofs/"
-if [ -d "$from/proofs/children" ]; then
-    cp -R "$from/proofs/children" "$to/proofs/"
-fi
+cp -R "$from/proofs/folders" "$from/proofs/children" "$to/proofs/"
 cat >"$work/crates.txt" <<'CRATES'
 opam_names:
 outside_io: opam_names
@@ -119,16 +116,8 @@ fn main(rt: HostRuntime) -> io::Result<()> {
     }
 }
 RATTLE
-if [ -d "$top/crates/child_pool/proofs/tests" ]; then
-    for name in make_room put_in work work_in_threads; do
-        if [ -d "$top/crates/child_pool/proofs/tests/$name" ]; then
-            mkdir -p "$to/proofs/$name"
-            for file in "$top/crates/child_pool/proofs/tests/$name"/*; do
-                sed 's/child_pool\.proofs\.tests/opam_main.proofs/g' "$file" >"$to/proofs/$name/$(basename "$file")"
-            done
-        fi
-    done
-fi
+mkdir -p "$to/proofs/work"
+sed 's/child_pool\.proofs\.tests/opam_main.proofs/' "$top/crates/child_pool/proofs/tests/work/Invariants.antt" >"$to/proofs/work/Invariants.antt"
 
 (cd "$to" && rt run) >"$work/log" 2>&1 </dev/null || true
 program=$to/out/opam_main

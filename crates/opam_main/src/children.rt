@@ -1,7 +1,8 @@
 // Build folders of the machine, and commands in them, as a workshop.
-ghost use Rattle.std.specs.Prelude.{◌≡◌, ℕ, pos, IfOk, codes, true};
+ghost use Rattle.std.specs.Prelude.{◌≡◌, ◌<◌, ℕ, pos, IfOk, codes, true};
 ghost use Rattle.std.specs.Process.{clears_env, command_args, command_dir, command_program, exit_code};
 ghost use Rattle.std.specs.declared.option.Option.TheVariants.{None, Some};
+ghost use Rattle.outside_io.specs.Shops.{IsEndingOf};
 ghost use Rattle.opam_main.specs.Commands.{sh_args};
 
 use crate::fault::FileError;
@@ -59,7 +60,9 @@ impl<R: Files + Processes + Alloc + Clone + Drop> ChildShop<R> {
     }
 
     // Only a command that was started and whose end is known has a status.
-    fn run(&self, alloc: Global, job: &Job, words: &[Text]) -> Result<Ending, FileError> {
+    fn run(&self, alloc: Global, job: &Job, words: &[Text]) -> Result<Ending, FileError>
+        ensures { IfOk result (λ ending. (step : ℕ) → 0 < step → IsEndingOf step ending) }
+    {
         let folder = self.build_folder(alloc, &job.pkg)?;
         let mut command = command_in(alloc, folder.as_str(), words)?;
         for (name, value) in job.env.as_slice() {
@@ -111,6 +114,7 @@ fn command_in(alloc: Global, folder: &str, words: &[Text]) -> Result<Command, Al
 fn ending_of(status: ExitStatus) -> Ending
     ensures exit { (code : ℕ) → exit_code status ≡ Some (pos code) → result ≡ Ending.Exit code }
     ensures killed { exit_code status ≡ None → result ≡ Ending.Killed }
+    ensures kind { (step : ℕ) → 0 < step → IsEndingOf step result }
 {
     match status.code() {
         Some(code) => Ending::Exit(code as u8),
