@@ -65,7 +65,12 @@ impl<
     S: Fn(u32, u32, Job) -> Result<X, OutOfMemory> + Drop,
 > PoolCrew<R, W, X, S> {
     /// A crew of 1 to 64 that runs nothing yet. `begin` starts a job with these parts, by its place and its number.
-    pub fn new(alloc: Global, parts: PoolParts<R, W>, workers: u32, begin: S) -> PoolCrew<R, W, X, S>
+    pub fn new(
+        alloc: Global,
+        parts: PoolParts<R, W>,
+        workers: u32,
+        begin: S,
+    ) -> PoolCrew<R, W, X, S>
         requires some { 0 < workers }
         requires few { workers ≤ 64 }
         ensures size { ⟦<PoolCrew<R, W, X, S> as Crew>⟧.size result ≡ workers }
@@ -135,7 +140,11 @@ impl<
         ensures { result < vec_len self.now.children }
     {
         let place = self.hints.next(&self.rt);
-        match self.children.iter().position(|child| child.place() == place) {
+        match self
+            .children
+            .iter()
+            .position(|child| child.place() == place)
+        {
             Some(at) => at,
             None => 0,
         }

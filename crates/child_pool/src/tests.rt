@@ -60,7 +60,11 @@ fn number_of(job: &Job) -> u32 {
 fn drawn(id: u32, step: u32) -> Ending
     ensures { IsEndingOf step result }
 {
-    let draw = id.wrapping_mul(2_654_435_761).wrapping_add(step.wrapping_mul(40_503)) / 8 % 12;
+    let draw = id
+        .wrapping_mul(2_654_435_761)
+        .wrapping_add(step.wrapping_mul(40_503))
+        / 8
+        % 12;
     if draw > 2 {
         return Ending::Exit(0);
     }
@@ -308,7 +312,11 @@ fn is_all(alloc: Global, shop: &Counting, taken: &[(u32, Fate)], count: u32) -> 
         seen.push(false)?;
     }
     for (id, fate) in taken {
-        let wanted = if shop.draws { drawn_fate(*id) } else { Fate::Built };
+        let wanted = if shop.draws {
+            drawn_fate(*id)
+        } else {
+            Fate::Built
+        };
         let is_new = match seen.get_mut(*id as usize) {
             Some(is_seen) => !std::mem::replace(is_seen, true),
             None => false,
@@ -335,11 +343,17 @@ fn jobs_overlap(rt: HostRuntime) -> Result<(), Fail> {
         step: 1,
         ending: Ending::Exit(9),
     };
-    assert_eq!(rt; taken.as_slice(), [(0, stopped), (1, Fate::Built)].as_slice());
+    assert_eq!(rt;
+        taken.as_slice(),
+        [(0, stopped), (1, Fate::Built)].as_slice()
+    );
     let picks = [1, 0].to_vec(alloc)?;
     let other = Meeting::new(1000);
     let taken = work(alloc, &mut OrderCrew::new(alloc, &other, 2, picks), 2)?;
-    assert_eq!(rt; taken.as_slice(), [(1, Fate::Built), (0, Fate::Built)].as_slice());
+    assert_eq!(rt;
+        taken.as_slice(),
+        [(1, Fate::Built), (0, Fate::Built)].as_slice()
+    );
     Ok(())
 }
 

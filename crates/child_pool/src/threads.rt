@@ -85,7 +85,13 @@ impl<
 
     /// Starts a job in a thread of its own, if one can be made; it rings for this place when it has ended. Where no
     /// thread can be made the job is built when its end is asked for.
-    pub fn start(&self, alloc: Global, place: u32, id: u32, job: Job) -> Result<Child<W>, OutOfMemory>
+    pub fn start(
+        &self,
+        alloc: Global,
+        place: u32,
+        id: u32,
+        job: Job,
+    ) -> Result<Child<W>, OutOfMemory>
         requires { length job.commands < 2 ^ 32 - 1 }
         ensures { IfOk result (λ c. (c.id ≡ id) × (arc_value c.shop ≡ arc_value self.now.shop) × (arc_value c.job ≡ job)) }
     {

@@ -6,12 +6,11 @@ ghost use Rattle.opam_main.specs.Folders.{folder_of};
 use crate::fault::FileError;
 use crate::files::found_at;
 use std::alloc::{AllocError, Global};
-use std::fs;
 use std::fs::{DirEntry, Permissions};
-use std::io;
 use std::io::ErrorKind;
 use std::os::unix::fs::PermissionsExt;
 use std::rt::Files;
+use std::{fs, io};
 
 /// The path of what stands below a folder.
 pub fn path_below(alloc: Global, folder: &str, path: &str) -> Result<String, AllocError>
@@ -209,7 +208,9 @@ fn open_up<R: Files + Alloc + Clone + Drop>(
         let Some(folder) = folders.pop() else {
             break;
         };
-        let mode = fs::symlink_metadata(rt, folder.as_str())?.permissions().mode();
+        let mode = fs::symlink_metadata(rt, folder.as_str())?
+            .permissions()
+            .mode();
         if mode & 0o700 != 0o700 {
             fs::set_permissions(rt, folder.as_str(), Permissions::from_mode(mode | 0o700))?;
         }

@@ -63,7 +63,10 @@ fn write_some<S: Write>(inner: &mut S, bytes: &[u8]) -> io::Result<usize>
 /// switch gets the number of one.
 pub fn open_standard_streams<R: Files<File = File>>(rt: &R) -> io::Result<()> {
     for _ in 0..3 {
-        let file = OpenOptions::new().read(true).write(true).open(rt, "/dev/null")?;
+        let file = OpenOptions::new()
+            .read(true)
+            .write(true)
+            .open(rt, "/dev/null")?;
         if file.as_raw_fd() > 2 {
             break;
         }

@@ -15,6 +15,7 @@ use std::os::unix::fs::PermissionsExt;
 use std::rt::Files;
 
 const LOCK: &str = ".opam-switch/lock";
+
 const JOURNAL: &str = ".opam-switch/journal";
 
 /// The folder of a switch, with what is to be made durable of it.

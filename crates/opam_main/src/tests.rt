@@ -238,9 +238,18 @@ fn a_shop_prepares_folders(rt: HostRuntime) -> Result<(), Fail> {
     assert_eq!(rt; letter(shop.read(alloc, &job, &file, 5)), 'b');
     assert_eq!(rt; letter(shop.read(alloc, &job, &file, 4)), 't');
     assert_eq!(rt; letter(shop.read(alloc, &job, &folder, 5)), 'u');
-    assert_eq!(rt; letter(shop.read(alloc, &job, &path(alloc, "pipe")?, 5)), 'u');
-    assert_eq!(rt; letter(shop.read(alloc, &job, &path(alloc, "none")?, 5)), 'a');
-    assert_eq!(rt; letter(shop.read(alloc, &job, &path(alloc, "folder/file/x")?, 5)), 'u');
+    assert_eq!(rt;
+        letter(shop.read(alloc, &job, &path(alloc, "pipe")?, 5)),
+        'u'
+    );
+    assert_eq!(rt;
+        letter(shop.read(alloc, &job, &path(alloc, "none")?, 5)),
+        'a'
+    );
+    assert_eq!(rt;
+        letter(shop.read(alloc, &job, &path(alloc, "folder/file/x")?, 5)),
+        'u'
+    );
     assert_eq!(rt; shop.build_step(alloc, &job, 0), Ok(Ending::Exit(0)));
     assert!(rt; fs::read_dir(&rt, build)?.next().is_none());
     fs::remove_dir_all(&rt, "shop")?;
@@ -276,7 +285,10 @@ fn a_shop_copies_sources(rt: HostRuntime) -> Result<(), Fail> {
          test -d empty && test ! -e _opam",
     )?;
     let build = "copy/source/_opam/.opam-switch/build/hello.1.0";
-    assert_eq!(rt; mode(&rt, "copy/source/_opam/.opam-switch/build/hello.1.0/tool")?, 0o755);
+    assert_eq!(rt;
+        mode(&rt, "copy/source/_opam/.opam-switch/build/hello.1.0/tool")?,
+        0o755
+    );
     let wrong = [
         "copy/none",
         "copy/source/tool",
@@ -288,7 +300,11 @@ fn a_shop_copies_sources(rt: HostRuntime) -> Result<(), Fail> {
         build,
     ];
     for source in wrong {
-        assert_eq!(rt; prepares(&shop, alloc, source)?, Ok(Ending::NotPrepared), "{source}");
+        assert_eq!(rt;
+            prepares(&shop, alloc, source)?,
+            Ok(Ending::NotPrepared),
+            "{source}"
+        );
     }
     fs::remove_dir_all(&rt, "copy")?;
     Ok(())
@@ -317,19 +333,34 @@ fn a_shop_runs_commands(rt: HostRuntime) -> Result<(), Fail> {
     make_fresh(&rt, "run")?;
     let shop = make_shop(&rt, "run/switch")?;
     let log = "run/switch/.opam-switch/build/hello.1.0/opam.log";
-    let prints = ["sh", "-c", "cat; echo $0 $WHO ${HOME-none}; echo bad >&2; pwd", "a b"];
+    let prints = [
+        "sh",
+        "-c",
+        "cat; echo $0 $WHO ${HOME-none}; echo bad >&2; pwd",
+        "a b",
+    ];
     let env = [("WHO", "one"), ("WHO", "two")];
     assert_eq!(rt; ending(&shop, alloc, &env, &prints)?, Ok(Ending::Exit(0)));
     let printed = fs::read_to_string(&rt, log)?;
     assert!(rt; printed.as_str().starts_with("a b two none\nbad\n/"));
-    assert!(rt; printed.as_str().ends_with("/run/switch/.opam-switch/build/hello.1.0\n"));
+    assert!(rt;
+        printed
+            .as_str()
+            .ends_with("/run/switch/.opam-switch/build/hello.1.0\n")
+    );
     let fails = ["sh", "-c", "exit 7"];
     assert_eq!(rt; ending(&shop, alloc, &[], &fails)?, Ok(Ending::Exit(7)));
     let kills = ["sh", "-c", "kill -9 $$"];
     assert_eq!(rt; ending(&shop, alloc, &[], &kills)?, Ok(Ending::Killed));
-    assert_eq!(rt; ending(&shop, alloc, &[], &["no-such-command"])?, Ok(Ending::Exit(127)));
+    assert_eq!(rt;
+        ending(&shop, alloc, &[], &["no-such-command"])?,
+        Ok(Ending::Exit(127))
+    );
     let nowhere = [("PATH", "/nowhere")];
-    assert_eq!(rt; ending(&shop, alloc, &nowhere, &["true"])?, Ok(Ending::NotStarted));
+    assert_eq!(rt;
+        ending(&shop, alloc, &nowhere, &["true"])?,
+        Ok(Ending::NotStarted)
+    );
     fs::remove_dir_all(&rt, "run")?;
     Ok(())
 }
