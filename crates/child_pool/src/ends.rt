@@ -20,7 +20,8 @@ pub fn drain<C: Crew>(alloc: Global, crew: &mut C, taken: &mut Vec<(u32, Fate)>)
     ensures told { C.told crew.new ≡ C.told crew.old }
     ensures idle { C.running crew.new ≡ [] }
     ensures drained { (fates : List (ℕ × Fate)) × (taken.new.items ≡ taken.old.items ++ fates)
-        × Drained (length (C.running crew.old)) (C.told crew.old) (C.running crew.old) (C.running crew.new) (C.events crew.old) (C.events crew.new) fates }
+        × Drained (length (C.running crew.old)) (C.told crew.old) (C.running crew.old)
+        (C.running crew.new) (C.events crew.old) (C.events crew.new) fates }
 {
     while !crew.idle() {
         take_one(alloc, crew, taken);
@@ -37,8 +38,10 @@ fn take_one<C: Crew>(alloc: Global, crew: &mut C, taken: &mut Vec<(u32, Fate)>)
     ensures told { C.told crew.new ≡ C.told crew.old }
     ensures room { vec_capacity taken.new ≡ vec_capacity taken.old }
     ensures few { vec_len taken.new ≤ vec_len taken.old + 1 }
-    ensures takes { (result : Result (ℕ × Fate) OutOfMemory) × (taken.new.items ≡ taken.old.items ++ known_fate result)
-        × TakesOne (C.told crew.old) (C.running crew.old) (C.running crew.new) (C.events crew.old) (C.events crew.new) result }
+    ensures takes { (result : Result (ℕ × Fate) OutOfMemory)
+        × (taken.new.items ≡ taken.old.items ++ known_fate result)
+        × TakesOne (C.told crew.old) (C.running crew.old) (C.running crew.new)
+        (C.events crew.old) (C.events crew.new) result }
 {
     match crew.take_end(alloc) {
         Ok(answer) => taken.push_reserved(answer),

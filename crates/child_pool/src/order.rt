@@ -49,7 +49,8 @@ impl<'a, W: Workshop> OrderCrew<'a, W> {
         ensures jobs { self.new.jobs.items ≡ self.old.jobs.items }
         ensures events { self.new.events.items ≡ self.old.events.items }
         ensures room { OnOk result (vec_len self.new.jobs < vec_capacity self.new.jobs) }
-        ensures spare { OnOk result (vec_len self.new.events + vec_len self.new.jobs + 2 ≤ vec_capacity self.new.events) }
+        ensures spare { OnOk result
+            (vec_len self.new.events + vec_len self.new.jobs + 2 ≤ vec_capacity self.new.events) }
     {
         if self.events.reserve(self.jobs.len() + 2).is_err() {
             return Err(OutOfMemory);
@@ -140,9 +141,12 @@ impl<'a, W: Workshop> Crew for OrderCrew<'a, W> {
         ensures size { let crew = ⟦<OrderCrew<'a, W> as Crew>⟧ in crew.size self.new ≡ crew.size self.old }
         ensures told { let crew = ⟦<OrderCrew<'a, W> as Crew>⟧ in crew.told self.new ≡ crew.told self.old }
         ensures takes { let crew = ⟦<OrderCrew<'a, W> as Crew>⟧ in
-            TakesOne (crew.told self.old) (crew.running self.old) (crew.running self.new) (crew.events self.old) (crew.events self.new) result }
+            TakesOne (crew.told self.old) (crew.running self.old) (crew.running self.new)
+            (crew.events self.old) (crew.events self.new) result }
         ensures picked { let crew = ⟦<OrderCrew<'a, W> as Crew>⟧ in
-            TakesAt (next_place self.old.picks.items (length (crew.running self.old))) (crew.told self.old) (crew.running self.old) (crew.running self.new) (crew.events self.old) (crew.events self.new) result }
+            TakesAt (next_place self.old.picks.items (length (crew.running self.old)))
+            (crew.told self.old) (crew.running self.old) (crew.running self.new)
+            (crew.events self.old) (crew.events self.new) result }
         ensures picks { self.new.picks.items ≡ drop 1 self.old.picks.items }
     {
         let at = next_pick(&mut self.picks, self.jobs.len());

@@ -99,7 +99,8 @@ impl<
         ensures begin { self.new.begin ≡ self.old.begin }
         ensures children { self.new.children.items ≡ self.old.children.items }
         ensures events { self.new.events.items ≡ self.old.events.items }
-        ensures spare { OnOk result (vec_len self.new.events + vec_len self.new.children + 2 ≤ vec_capacity self.new.events) }
+        ensures spare { OnOk result
+            (vec_len self.new.events + vec_len self.new.children + 2 ≤ vec_capacity self.new.events) }
         ensures room { OnOk result (vec_len self.new.children < vec_capacity self.new.children) }
     {
         if self.events.reserve(self.children.len() + 2).is_err() {
@@ -180,7 +181,8 @@ impl<
 
     ghost told = { λ c. W.told (arc_value c.shop) };
 
-    ghost fit = { λ c. IsFit X.number X.job X.told (W.told (arc_value c.shop)) (S.pre c.begin) (S.post c.begin) c.children.items };
+    ghost fit = { λ c. IsFit X.number X.job X.told (W.told (arc_value c.shop))
+        (S.pre c.begin) (S.post c.begin) c.children.items };
 
     fn workers(&self) -> u32 {
         self.workers

@@ -37,7 +37,8 @@ pub struct Child<W: Workshop> {
     pub job: Arc<Job>,
     pub handle: Option<Handle<W>>,
     ghost short: { length (arc_value job).commands < 2 ^ 32 - 1 },
-    ghost kept: { ∥ ForSome handle (λ h. (h.promise.shop.value ≡ arc_value shop) × (h.promise.job.value ≡ arc_value job)) ∥₁ },
+    ghost kept: { ∥ ForSome handle (λ h. (h.promise.shop.value ≡ arc_value shop)
+        × (h.promise.job.value ≡ arc_value job)) ∥₁ },
 }
 
 /// What the threads of a pool are started with. A crew over it is made in three lines, where the shop may be sent to a
@@ -93,7 +94,8 @@ impl<
         job: Job,
     ) -> Result<Child<W>, OutOfMemory>
         requires { length job.commands < 2 ^ 32 - 1 }
-        ensures { IfOk result (λ c. (c.id ≡ id) × (arc_value c.shop ≡ arc_value self.now.shop) × (arc_value c.job ≡ job)) }
+        ensures { IfOk result (λ c. (c.id ≡ id) × (arc_value c.shop ≡ arc_value self.now.shop)
+            × (arc_value c.job ≡ job)) }
     {
         // all that may want memory comes before the thread
         let job = Arc::new(alloc, job)?;
