@@ -12,7 +12,7 @@ is_current() {
 
 # Says when the next crate begins, and else nothing of what the toolchain prints.
 progress() {
-    sed -un 's/^rt: chose --jobs .* for \(.*\)$/opam_main: proving \1/p; s/^crate \([a-z_]*\): .*$/opam_main: \1 is proved/p'
+    sed -un 's/^rt: chose --jobs .* for \(.*\)$/opam_main: proving \1/p; s/^crate \([a-z_]*\): .*$/opam_main: \1 is checked/p'
 }
 
 if ! is_current; then
