@@ -2,14 +2,24 @@
 //! stored. It proves nothing but that it is safe.
 #![tactic(auto)]
 
+mod calls;
+mod devices;
+mod disks;
 mod fault;
+mod files;
+mod filter_show;
+mod filters;
 mod lexer;
 mod names;
+mod reports;
 mod script;
 mod show;
+mod trees;
 mod words;
 
+use devices::Devices;
 use fault::Fault;
+use opam_filter::Vars;
 use script::{Call, read_call};
 use std::alloc::{AllocError, Global};
 use std::io;
@@ -17,39 +27,69 @@ use std::io::{BufRead, BufReader, BufWriter, Write};
 
 fn main(rt: HostRuntime) -> io::Result<()> {
     let alloc = rt.alloc();
+    let mut world = World {
+        vars: Vars::empty(alloc),
+        devices: Devices::new(alloc),
+    };
     let mut out = BufWriter::new(alloc, io::writer(&rt))?;
     for line in BufReader::new(alloc, rt.reader())?.split(alloc, b'\n') {
-        let text = answer_line(alloc, line?.as_slice())?;
+        let text = answer_line(alloc, &mut world, line?.as_slice())?;
         writeln!(out, "{text}")?;
     }
     out.flush()
 }
 
+// What the lines so far have left for the next ones.
+#[derive(Drop)]
+struct World {
+    vars: Vars,
+    devices: Devices,
+}
+
 // What stands for a line: blank lines and comments stand for themselves, and a call is followed by its answer.
-fn answer_line(alloc: Global, line: &[u8]) -> Result<String, AllocError> {
+fn answer_line(alloc: Global, world: &mut World, line: &[u8]) -> Result<String, AllocError> {
     let Ok(text) = str::from_utf8(line) else {
         return String::from_str(alloc, "a line that is no UTF-8 text");
     };
     if text.is_empty() || text.starts_with('#') {
         return String::from_str(alloc, text);
     }
-    match answer_text(alloc, line) {
+    match answer_text(alloc, world, line) {
         Ok(answer) => format!(in alloc; "{text} -> {answer}"),
         Err(Fault::Line(why)) => format!(in alloc; "{text} -> no call: {why}"),
         Err(Fault::Memory) => format!(in alloc; "{text} -> out of memory"),
     }
 }
 
-fn answer_text(alloc: Global, line: &[u8]) -> Result<String, Fault> {
-    answer(alloc, &read_call(alloc, line)?)
+fn answer_text(alloc: Global, world: &mut World, line: &[u8]) -> Result<String, Fault> {
+    let call = read_call(alloc, line)?;
+    answer(alloc, &call, world)
 }
 
 // Each module answers the calls of one crate.
-fn answer(alloc: Global, call: &Call) -> Result<String, Fault> {
+fn answer(alloc: Global, call: &Call, world: &mut World) -> Result<String, Fault> {
     if let Some(text) = names::answer(alloc, call)? {
         return Ok(text);
     }
     if let Some(text) = words::answer(alloc, call)? {
+        return Ok(text);
+    }
+    if let Some(text) = files::answer(alloc, call)? {
+        return Ok(text);
+    }
+    if let Some(text) = filters::answer(alloc, call, &mut world.vars)? {
+        return Ok(text);
+    }
+    if let Some(text) = devices::answer(alloc, call, &mut world.devices)? {
+        return Ok(text);
+    }
+    if let Some(text) = calls::answer(alloc, call, &mut world.devices)? {
+        return Ok(text);
+    }
+    if let Some(text) = disks::answer(alloc, call, &mut world.devices)? {
+        return Ok(text);
+    }
+    if let Some(text) = reports::answer(alloc, call)? {
         return Ok(text);
     }
     Err(Fault::Line("there is none of this name with so many words"))

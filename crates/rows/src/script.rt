@@ -60,3 +60,17 @@ pub fn strings(alloc: Global, words: &[Word]) -> Result<Vec<String>, Fault> {
     }
     Ok(texts)
 }
+
+/// The numbers that words write.
+pub fn numbers(alloc: Global, words: &[Word]) -> Result<Vec<u64>, Fault> {
+    let mut found = Vec::new(alloc);
+    for word in words {
+        found.push(word.number()?)?;
+    }
+    Ok(found)
+}
+
+/// The bytes of a word, in memory of their own.
+pub fn same(alloc: Global, word: &Word) -> Result<Vec<u8>, Fault> {
+    Ok(Vec::from_slice(alloc, word.bytes.as_slice())?)
+}

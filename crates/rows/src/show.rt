@@ -17,12 +17,18 @@ pub fn quoted(alloc: Global, bytes: &[u8]) -> Result<String, Fault> {
 }
 
 fn in_quotes(alloc: Global, bytes: &[u8]) -> Result<String, Fault> {
-    let mut text = String::from_str(alloc, "\"")?;
-    for byte in bytes {
-        push_byte(&mut text, *byte)?;
-    }
-    text.push_str("\"")?;
+    let mut text = String::new(alloc);
+    push_quoted(&mut text, bytes)?;
     Ok(text)
+}
+
+/// Adds a text in quotes, whole.
+pub fn push_quoted(text: &mut String, bytes: &[u8]) -> Result<(), Fault> {
+    text.push_str("\"")?;
+    for byte in bytes {
+        push_byte(text, *byte)?;
+    }
+    Ok(text.push_str("\"")?)
 }
 
 fn push_byte(text: &mut String, byte: u8) -> Result<(), Fault> {

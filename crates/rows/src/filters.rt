@@ -1,0 +1,225 @@
+// Calls of `opam_filter`, under the variables of the script.
+use crate::fault::Fault;
+use crate::filter_show::{push_filter, push_formula, push_reduced, truth_word};
+use crate::lexer::Word;
+use crate::names::pkg_of;
+use crate::script::Call;
+use crate::show::{answered, plain, quoted};
+use crate::trees::{read_tree, variable};
+use opam_filter::{
+    Filter, FilterFault, Formula, Reduced, VarValue, Vars, asked, asked_in, atoms, eval, expand,
+    holds, meets, names, read_filter, read_formula, reduce, rises,
+};
+use opam_names::{Name, Pkg, Text};
+use opam_syntax::Span;
+use std::alloc::Global;
+
+pub fn answer(alloc: Global, call: &Call, vars: &mut Vars) -> Result<Option<String>, Fault> {
+    let answer = match (call.name.as_str(), call.words.as_slice()) {
+        ("Vars::empty", []) => empty(alloc, vars),
+        ("Vars::set", [name, value]) => set(alloc, vars, name, value),
+        ("Vars::value", [name]) => value(alloc, vars, name),
+        ("read_filter", tree) => show_filter(alloc, tree),
+        ("Filter::copy", tree) => copy_filter(alloc, tree),
+        ("eval", tree) => evaluate(alloc, tree, vars),
+        ("expand", [text]) => fill_in(alloc, text, vars),
+        ("asked", tree) => ask(alloc, tree),
+        ("asked_in", [text]) => ask_in(alloc, text),
+        ("read_formula", tree) => show_formula(alloc, tree),
+        ("reduce", tree) => show_reduced(alloc, tree, vars),
+        ("Reduced::copy", tree) => copy_reduced(alloc, tree, vars),
+        ("names", tree) => show_kept(alloc, tree, vars),
+        ("atoms", tree) => show_atoms(alloc, tree),
+        ("holds", [set, tree @ ..]) => hold(alloc, set, tree, vars),
+        ("meets", [pkg, tree @ ..]) => meet(alloc, pkg, tree, vars),
+        ("rises", [set]) => rise(alloc, set),
+        _ => return Ok(None),
+    };
+    Ok(Some(answer?))
+}
+
+fn empty(alloc: Global, vars: &mut Vars) -> Result<String, Fault> {
+    *vars = Vars::empty(alloc);
+    plain(alloc, "noted")
+}
+
+// In quotes it is a text, and else a boolean.
+fn set(alloc: Global, vars: &mut Vars, name: &Word, value: &Word) -> Result<String, Fault> {
+    let value = if value.quoted {
+        VarValue::Text(Text::from_str(alloc, value.text()?)?)
+    } else {
+        VarValue::Flag(value.is("true"))
+    };
+    vars.set(variable(alloc, name.text()?)?, value)?;
+    plain(alloc, "noted")
+}
+
+fn value(alloc: Global, vars: &Vars, name: &Word) -> Result<String, Fault> {
+    match vars.value(&variable(alloc, name.text()?)?) {
+        None => plain(alloc, "undefined"),
+        Some(VarValue::Flag(flag)) => plain(alloc, if *flag { "true" } else { "false" }),
+        Some(VarValue::Text(text)) => quoted(alloc, text.as_str().as_bytes()),
+    }
+}
+
+fn faulty(alloc: Global, fault: FilterFault) -> Result<String, Fault> {
+    let (what, span) = match fault {
+        FilterFault::NotAFilter { span } => ("no filter", span),
+        FilterFault::NotAFormula { span } => ("no formula", span),
+        FilterFault::NotText { span } => ("no text", span),
+        FilterFault::BadName { span } => ("no name", span),
+        FilterFault::NegatedVersion { span } => ("a negated version", span),
+        FilterFault::Memory => return Err(Fault::Memory),
+    };
+    let Span { start, end } = span;
+    Ok(format!(in alloc; "{what} at {start}-{end}")?)
+}
+
+// The filter that the words write.
+fn filter_of(alloc: Global, tree: &[Word]) -> Result<Filter, Fault> {
+    match read_filter(alloc, &read_tree(alloc, tree)?) {
+        Ok(filter) => Ok(filter),
+        Err(FilterFault::Memory) => Err(Fault::Memory),
+        Err(_) => Err(Fault::Line("the words are no filter")),
+    }
+}
+
+fn formula_of(alloc: Global, tree: &[Word]) -> Result<Formula, Fault> {
+    match read_formula(alloc, &read_tree(alloc, tree)?) {
+        Ok(formula) => Ok(formula),
+        Err(FilterFault::Memory) => Err(Fault::Memory),
+        Err(_) => Err(Fault::Line("the words are no formula")),
+    }
+}
+
+fn reduced_of(alloc: Global, tree: &[Word], vars: &Vars) -> Result<Reduced, Fault> {
+    Ok(reduce(alloc, &formula_of(alloc, tree)?, vars)?)
+}
+
+fn filter_text(alloc: Global, filter: &Filter) -> Result<String, Fault> {
+    let mut text = String::new(alloc);
+    push_filter(&mut text, filter)?;
+    Ok(text)
+}
+
+fn show_filter(alloc: Global, tree: &[Word]) -> Result<String, Fault> {
+    match read_filter(alloc, &read_tree(alloc, tree)?) {
+        Ok(filter) => filter_text(alloc, &filter),
+        Err(fault) => faulty(alloc, fault),
+    }
+}
+
+fn copy_filter(alloc: Global, tree: &[Word]) -> Result<String, Fault> {
+    filter_text(alloc, &filter_of(alloc, tree)?.copy(alloc)?)
+}
+
+fn evaluate(alloc: Global, tree: &[Word], vars: &Vars) -> Result<String, Fault> {
+    let truth = eval(alloc, &filter_of(alloc, tree)?, vars)?;
+    plain(alloc, truth_word(truth))
+}
+
+fn fill_in(alloc: Global, text: &Word, vars: &Vars) -> Result<String, Fault> {
+    quoted(alloc, expand(alloc, text.text()?, vars)?.as_bytes())
+}
+
+fn names_text(alloc: Global, names: &[Name]) -> Result<String, Fault> {
+    let mut text = String::from_str(alloc, "names:")?;
+    for name in names {
+        text.push_str(" ")?;
+        text.push_str(name.as_str())?;
+    }
+    Ok(text)
+}
+
+fn ask(alloc: Global, tree: &[Word]) -> Result<String, Fault> {
+    let found = asked(alloc, &filter_of(alloc, tree)?)?;
+    names_text(alloc, found.as_slice())
+}
+
+fn ask_in(alloc: Global, text: &Word) -> Result<String, Fault> {
+    let found = asked_in(alloc, text.text()?)?;
+    names_text(alloc, found.as_slice())
+}
+
+fn formula_text(alloc: Global, formula: &Formula) -> Result<String, Fault> {
+    let mut text = String::new(alloc);
+    push_formula(&mut text, formula)?;
+    Ok(text)
+}
+
+fn show_formula(alloc: Global, tree: &[Word]) -> Result<String, Fault> {
+    match read_formula(alloc, &read_tree(alloc, tree)?) {
+        Ok(formula) => formula_text(alloc, &formula),
+        Err(fault) => faulty(alloc, fault),
+    }
+}
+
+fn reduced_text(alloc: Global, reduced: &Reduced) -> Result<String, Fault> {
+    let mut text = String::new(alloc);
+    push_reduced(&mut text, reduced)?;
+    Ok(text)
+}
+
+fn show_reduced(alloc: Global, tree: &[Word], vars: &Vars) -> Result<String, Fault> {
+    reduced_text(alloc, &reduced_of(alloc, tree, vars)?)
+}
+
+fn copy_reduced(alloc: Global, tree: &[Word], vars: &Vars) -> Result<String, Fault> {
+    reduced_text(alloc, &reduced_of(alloc, tree, vars)?.copy(alloc)?)
+}
+
+fn show_kept(alloc: Global, tree: &[Word], vars: &Vars) -> Result<String, Fault> {
+    let found = names(alloc, &reduced_of(alloc, tree, vars)?)?;
+    names_text(alloc, found.as_slice())
+}
+
+// Each atom as a formula of its own.
+fn show_atoms(alloc: Global, tree: &[Word]) -> Result<String, Fault> {
+    let found = atoms(alloc, formula_of(alloc, tree)?)?;
+    let mut text = String::from_str(alloc, "atoms:")?;
+    for atom in found.as_slice() {
+        text.push_str(" ")?;
+        push_formula(&mut text, atom)?;
+    }
+    Ok(text)
+}
+
+// Packages between commas.
+fn set_of(alloc: Global, set: &Word) -> Result<Vec<Pkg>, Fault> {
+    let mut pkgs = Vec::new(alloc);
+    for text in set.text()?.split(',') {
+        if !text.is_empty() {
+            pkgs.push(pkg_named(alloc, text)?)?;
+        }
+    }
+    Ok(pkgs)
+}
+
+fn pkg_named(alloc: Global, text: &str) -> Result<Pkg, Fault> {
+    let bytes = Vec::from_slice(alloc, text.as_bytes())?;
+    pkg_of(
+        alloc,
+        &Word {
+            bytes,
+            quoted: false,
+        },
+    )
+}
+
+fn rise(alloc: Global, set: &Word) -> Result<String, Fault> {
+    answered(alloc, rises(set_of(alloc, set)?.as_slice()))
+}
+
+fn hold(alloc: Global, set: &Word, tree: &[Word], vars: &Vars) -> Result<String, Fault> {
+    let reduced = reduced_of(alloc, tree, vars)?;
+    let set = set_of(alloc, set)?;
+    if !rises(set.as_slice()) {
+        return Err(Fault::Line("the packages do not rise"));
+    }
+    answered(alloc, holds(&reduced, set.as_slice()))
+}
+
+fn meet(alloc: Global, pkg: &Word, tree: &[Word], vars: &Vars) -> Result<String, Fault> {
+    let reduced = reduced_of(alloc, tree, vars)?;
+    answered(alloc, meets(&reduced, &pkg_of(alloc, pkg)?))
+}
