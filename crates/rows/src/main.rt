@@ -12,8 +12,11 @@ mod filters;
 mod lexer;
 mod names;
 mod reports;
+mod runs;
 mod script;
 mod show;
+#[cfg(test)]
+mod tests;
 mod trees;
 mod words;
 
@@ -24,6 +27,8 @@ use script::{Call, read_call};
 use std::alloc::{AllocError, Global};
 use std::io;
 use std::io::{BufRead, BufReader, BufWriter, Write};
+use std::sync::Wait;
+use std::thread::Threads;
 
 fn main(rt: HostRuntime) -> io::Result<()> {
     let alloc = rt.alloc();
@@ -33,7 +38,7 @@ fn main(rt: HostRuntime) -> io::Result<()> {
     };
     let mut out = BufWriter::new(alloc, io::writer(&rt))?;
     for line in BufReader::new(alloc, rt.reader())?.split(alloc, b'\n') {
-        let text = answer_line(alloc, &mut world, line?.as_slice())?;
+        let text = answer_line(&rt, &mut world, line?.as_slice())?;
         writeln!(out, "{text}")?;
     }
     out.flush()
@@ -47,23 +52,35 @@ struct World {
 }
 
 // What stands for a line: blank lines and comments stand for themselves, and a call is followed by its answer.
-fn answer_line(alloc: Global, world: &mut World, line: &[u8]) -> Result<String, AllocError> {
+fn answer_line<R: Threads + Wait + AllocGlobal + Clone + Send + Sync + Drop + 'static>(
+    rt: &R,
+    world: &mut World,
+    line: &[u8],
+) -> Result<String, AllocError> {
+    let alloc = rt.alloc();
     let Ok(text) = str::from_utf8(line) else {
         return String::from_str(alloc, "a line that is no UTF-8 text");
     };
     if text.is_empty() || text.starts_with('#') {
         return String::from_str(alloc, text);
     }
-    match answer_text(alloc, world, line) {
+    match answer_text(rt, world, line) {
         Ok(answer) => format!(in alloc; "{text} -> {answer}"),
         Err(Fault::Line(why)) => format!(in alloc; "{text} -> no call: {why}"),
         Err(Fault::Memory) => format!(in alloc; "{text} -> out of memory"),
     }
 }
 
-fn answer_text(alloc: Global, world: &mut World, line: &[u8]) -> Result<String, Fault> {
-    let call = read_call(alloc, line)?;
-    answer(alloc, &call, world)
+fn answer_text<R: Threads + Wait + AllocGlobal + Clone + Send + Sync + Drop + 'static>(
+    rt: &R,
+    world: &mut World,
+    line: &[u8],
+) -> Result<String, Fault> {
+    let call = read_call(rt.alloc(), line)?;
+    if let Some(text) = runs::answer(rt, &call, &mut world.devices)? {
+        return Ok(text);
+    }
+    answer(rt.alloc(), &call, world)
 }
 
 // Each module answers the calls of one crate.

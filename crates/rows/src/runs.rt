@@ -1,0 +1,127 @@
+// Whole runs of `opam_run` over the devices of the script.
+use crate::calls::show_fate;
+use crate::devices::Devices;
+use crate::fault::Fault;
+use crate::lexer::Word;
+use crate::script::{Call, strings};
+use crate::show::quoted;
+use opam_names::{Items, OutOfMemory, Text};
+use opam_top::{Ended, Facts, VarValue, opam_run};
+use outside_io::MemorySink;
+use std::alloc::Global;
+use std::sync::Wait;
+use std::thread::Threads;
+
+pub fn answer<R: Threads + Wait + AllocGlobal + Clone + Send + Sync + Drop + 'static>(
+    rt: &R,
+    call: &Call,
+    devices: &mut Devices,
+) -> Result<Option<String>, Fault> {
+    match call.name.as_str() {
+        "run" => Ok(Some(run(rt, call.words.as_slice(), devices)?)),
+        _ => Ok(None),
+    }
+}
+
+// The words are those of the command line.
+fn run<R: Threads + Wait + AllocGlobal + Clone + Send + Sync + Drop + 'static>(
+    rt: &R,
+    words: &[Word],
+    devices: &mut Devices,
+) -> Result<String, Fault> {
+    let alloc = rt.alloc();
+    let words = strings(alloc, words)?;
+    let facts = facts(alloc)?;
+    let shop = devices.take_shop(alloc)?;
+    let mut host = devices.take_host(alloc);
+    let mut disk = devices.take_disk(alloc);
+    let mut out = devices.next_out(alloc);
+    let mut err = devices.next_err(alloc);
+    let ended = opam_run(
+        rt,
+        alloc,
+        words.as_slice(),
+        &facts,
+        &mut host,
+        &shop,
+        &mut disk,
+        &mut out,
+        &mut err,
+    );
+    devices.keep_host(host);
+    devices.keep_disk(disk);
+    devices.keep_shop(shop);
+    show_run(alloc, &ended, &out, &err)
+}
+
+const TEXTS: [(&str, &str); 5] = [
+    ("arch", "x86_64"),
+    ("os", "linux"),
+    ("jobs", "1"),
+    ("make", "make"),
+    ("opam-version", "2.1.0"),
+];
+
+const FLAGS: [&str; 4] = ["with-test", "with-doc", "with-dev-setup", "dev"];
+
+// What the program hands in of a machine, with a switch in /w.
+pub fn facts(alloc: Global) -> Result<Facts, OutOfMemory> {
+    let mut globals = Items::new(alloc);
+    for (name, value) in TEXTS {
+        let value = VarValue::Text(Text::from_str(alloc, value)?);
+        globals.push((Text::from_str(alloc, name)?, value))?;
+    }
+    for name in FLAGS {
+        globals.push((Text::from_str(alloc, name)?, VarValue::Flag(false)))?;
+    }
+    Ok(Facts {
+        prefix: Text::from_str(alloc, "/w/_opam")?,
+        globals,
+        env: Items::new(alloc),
+    })
+}
+
+// The status, and below it the lines that were written, the jobs that were heard and the receipts.
+fn show_run(
+    alloc: Global,
+    ended: &Ended,
+    out: &MemorySink,
+    err: &MemorySink,
+) -> Result<String, Fault> {
+    let mut text = format!(in alloc; "status {}", ended.status.number())?;
+    push_lines(alloc, &mut text, "out", out.bytes())?;
+    push_lines(alloc, &mut text, "err", err.bytes())?;
+    for (pkg, fate) in ended.heard.as_slice() {
+        let pkg = pkg.print(alloc)?;
+        let fate = show_fate(alloc, *fate)?;
+        write!(text, "\n  heard {pkg} {fate}")?;
+    }
+    for receipt in ended.receipts.as_slice() {
+        write!(text, "\n  receipt {}", receipt.index)?;
+    }
+    if out.starved() > 0 || err.starved() > 0 {
+        text.push_str("\n  an output had no memory")?;
+    }
+    Ok(text)
+}
+
+// Each line in quotes.
+fn push_lines(alloc: Global, text: &mut String, what: &str, bytes: &[u8]) -> Result<(), Fault> {
+    let mut line = Vec::new(alloc);
+    for byte in bytes {
+        line.push(*byte)?;
+        if *byte == b'\n' {
+            push_line(alloc, text, what, line.as_slice())?;
+            line.clear();
+        }
+    }
+    if line.is_empty() {
+        return Ok(());
+    }
+    push_line(alloc, text, what, line.as_slice())
+}
+
+fn push_line(alloc: Global, text: &mut String, what: &str, line: &[u8]) -> Result<(), Fault> {
+    let line = quoted(alloc, line)?;
+    Ok(write!(text, "\n  {what} {line}")?)
+}
