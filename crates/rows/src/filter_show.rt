@@ -30,11 +30,6 @@ fn push_var(text: &mut String, var: &Var) -> Result<(), Fault> {
     Ok(text.push_str(var.name.as_str())?)
 }
 
-// Parts stand between semicolons.
-fn separate(text: &mut String, at: usize) -> Result<(), Fault> {
-    Ok(text.push_str(if at == 0 { "" } else { "; " })?)
-}
-
 #[cycle(filter)]
 pub fn push_filter(text: &mut String, filter: &Filter) -> Result<(), Fault> {
     match filter {
@@ -65,9 +60,11 @@ pub fn push_filter(text: &mut String, filter: &Filter) -> Result<(), Fault> {
 fn push_filters(text: &mut String, name: &str, parts: &[Filter]) -> Result<(), Fault> {
     text.push_str(name)?;
     text.push_str("(")?;
-    for (at, part) in parts.iter().enumerate() {
-        separate(text, at)?;
+    let mut between = "";
+    for part in parts {
+        text.push_str(between)?;
         push_filter(text, part)?;
+        between = "; ";
     }
     Ok(text.push_str(")")?)
 }
@@ -90,9 +87,11 @@ fn push_braces(text: &mut String, braces: &Braces) -> Result<(), Fault> {
 fn push_all_braces(text: &mut String, name: &str, parts: &[Braces]) -> Result<(), Fault> {
     text.push_str(name)?;
     text.push_str("(")?;
-    for (at, part) in parts.iter().enumerate() {
-        separate(text, at)?;
+    let mut between = "";
+    for part in parts {
+        text.push_str(between)?;
         push_braces(text, part)?;
+        between = "; ";
     }
     Ok(text.push_str(")")?)
 }
@@ -115,9 +114,11 @@ pub fn push_formula(text: &mut String, formula: &Formula) -> Result<(), Fault> {
 fn push_formulas(text: &mut String, name: &str, parts: &[Formula]) -> Result<(), Fault> {
     text.push_str(name)?;
     text.push_str("(")?;
-    for (at, part) in parts.iter().enumerate() {
-        separate(text, at)?;
+    let mut between = "";
+    for part in parts {
+        text.push_str(between)?;
         push_formula(text, part)?;
+        between = "; ";
     }
     Ok(text.push_str(")")?)
 }
@@ -143,9 +144,11 @@ fn push_test(text: &mut String, test: &Test) -> Result<(), Fault> {
 fn push_tests(text: &mut String, name: &str, parts: &[Test]) -> Result<(), Fault> {
     text.push_str(name)?;
     text.push_str("(")?;
-    for (at, part) in parts.iter().enumerate() {
-        separate(text, at)?;
+    let mut between = "";
+    for part in parts {
+        text.push_str(between)?;
         push_test(text, part)?;
+        between = "; ";
     }
     Ok(text.push_str(")")?)
 }
@@ -169,9 +172,11 @@ pub fn push_reduced(text: &mut String, reduced: &Reduced) -> Result<(), Fault> {
 fn push_all_reduced(text: &mut String, name: &str, parts: &[Reduced]) -> Result<(), Fault> {
     text.push_str(name)?;
     text.push_str("(")?;
-    for (at, part) in parts.iter().enumerate() {
-        separate(text, at)?;
+    let mut between = "";
+    for part in parts {
+        text.push_str(between)?;
         push_reduced(text, part)?;
+        between = "; ";
     }
     Ok(text.push_str(")")?)
 }

@@ -4,7 +4,7 @@
 
 mod calls;
 mod devices;
-mod disks;
+mod disk_calls;
 mod fault;
 mod files;
 mod filter_show;
@@ -103,7 +103,7 @@ fn answer(alloc: Global, call: &Call, world: &mut World) -> Result<String, Fault
     if let Some(text) = calls::answer(alloc, call, &mut world.devices)? {
         return Ok(text);
     }
-    if let Some(text) = disks::answer(alloc, call, &mut world.devices)? {
+    if let Some(text) = disk_calls::answer(alloc, call, &mut world.devices)? {
         return Ok(text);
     }
     if let Some(text) = reports::answer(alloc, call)? {

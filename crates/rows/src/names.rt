@@ -5,7 +5,10 @@ use crate::fault::Fault;
 use crate::lexer::Word;
 use crate::script::Call;
 use crate::show::{answered, plain, quoted};
-use opam_names::{Name, Pkg, ReadFault, RelPath, Version, text_order};
+use opam_names::{
+    Name, Pkg, ReadFault, RelPath, Version, keep_first_of_each, rises_by_bytes, sort_by_bytes,
+    text_order,
+};
 use std::alloc::Global;
 use std::cmp::Ordering;
 
@@ -26,6 +29,14 @@ pub fn answer(alloc: Global, call: &Call) -> Result<Option<String>, Fault> {
         ("Name::cmp", [one, other]) => compare(alloc, one, other),
         ("Version::order", [one, other]) => order(alloc, one, other),
         ("text_order", [one, other]) => order_texts(alloc, one, other),
+        ("Name::is_name", [word]) => answered(alloc, Name::is_name(word.bytes.as_slice())),
+        ("Version::is_version", [word]) => {
+            answered(alloc, Version::is_version(word.bytes.as_slice()))
+        }
+        ("RelPath::is_path", [word]) => answered(alloc, RelPath::is_path(word.bytes.as_slice())),
+        ("sort_by_bytes", words) => sort(alloc, words),
+        ("keep_first_of_each", words) => keep_first(alloc, words),
+        ("rises_by_bytes", words) => rise(alloc, words),
         _ => return Ok(None),
     };
     Ok(Some(answer?))
@@ -181,4 +192,38 @@ fn order(alloc: Global, one: &Word, other: &Word) -> Result<String, Fault> {
 
 fn order_texts(alloc: Global, one: &Word, other: &Word) -> Result<String, Fault> {
     show_order(alloc, text_order(one.text()?, other.text()?))
+}
+
+// Packages stand by their names.
+fn pkgs_of(alloc: Global, words: &[Word]) -> Result<Vec<Pkg>, Fault> {
+    let mut pkgs = Vec::new(alloc);
+    for word in words {
+        pkgs.push(pkg_of(alloc, word)?)?;
+    }
+    Ok(pkgs)
+}
+
+fn show_pkgs(alloc: Global, pkgs: &[Pkg]) -> Result<String, Fault> {
+    let mut text = String::from_str(alloc, "packages:")?;
+    for pkg in pkgs {
+        text.push_str(" ")?;
+        text.push_str(pkg.print(alloc)?.as_str())?;
+    }
+    Ok(text)
+}
+
+fn sort(alloc: Global, words: &[Word]) -> Result<String, Fault> {
+    let mut pkgs = pkgs_of(alloc, words)?;
+    sort_by_bytes(&mut pkgs)?;
+    show_pkgs(alloc, pkgs.as_slice())
+}
+
+fn keep_first(alloc: Global, words: &[Word]) -> Result<String, Fault> {
+    let mut pkgs = pkgs_of(alloc, words)?;
+    keep_first_of_each(&mut pkgs);
+    show_pkgs(alloc, pkgs.as_slice())
+}
+
+fn rise(alloc: Global, words: &[Word]) -> Result<String, Fault> {
+    answered(alloc, rises_by_bytes(pkgs_of(alloc, words)?.as_slice()))
 }
