@@ -60,11 +60,13 @@ pub fn push_filter(text: &mut String, filter: &Filter) -> Result<(), Fault> {
 fn push_filters(text: &mut String, name: &str, parts: &[Filter]) -> Result<(), Fault> {
     text.push_str(name)?;
     text.push_str("(")?;
-    let mut between = "";
+    let mut later = false;
     for part in parts {
-        text.push_str(between)?;
+        if later {
+            text.push_str("; ")?;
+        }
         push_filter(text, part)?;
-        between = "; ";
+        later = true;
     }
     Ok(text.push_str(")")?)
 }
@@ -87,11 +89,13 @@ fn push_braces(text: &mut String, braces: &Braces) -> Result<(), Fault> {
 fn push_all_braces(text: &mut String, name: &str, parts: &[Braces]) -> Result<(), Fault> {
     text.push_str(name)?;
     text.push_str("(")?;
-    let mut between = "";
+    let mut later = false;
     for part in parts {
-        text.push_str(between)?;
+        if later {
+            text.push_str("; ")?;
+        }
         push_braces(text, part)?;
-        between = "; ";
+        later = true;
     }
     Ok(text.push_str(")")?)
 }
@@ -114,11 +118,13 @@ pub fn push_formula(text: &mut String, formula: &Formula) -> Result<(), Fault> {
 fn push_formulas(text: &mut String, name: &str, parts: &[Formula]) -> Result<(), Fault> {
     text.push_str(name)?;
     text.push_str("(")?;
-    let mut between = "";
+    let mut later = false;
     for part in parts {
-        text.push_str(between)?;
+        if later {
+            text.push_str("; ")?;
+        }
         push_formula(text, part)?;
-        between = "; ";
+        later = true;
     }
     Ok(text.push_str(")")?)
 }
@@ -144,11 +150,13 @@ fn push_test(text: &mut String, test: &Test) -> Result<(), Fault> {
 fn push_tests(text: &mut String, name: &str, parts: &[Test]) -> Result<(), Fault> {
     text.push_str(name)?;
     text.push_str("(")?;
-    let mut between = "";
+    let mut later = false;
     for part in parts {
-        text.push_str(between)?;
+        if later {
+            text.push_str("; ")?;
+        }
         push_test(text, part)?;
-        between = "; ";
+        later = true;
     }
     Ok(text.push_str(")")?)
 }
@@ -172,11 +180,13 @@ pub fn push_reduced(text: &mut String, reduced: &Reduced) -> Result<(), Fault> {
 fn push_all_reduced(text: &mut String, name: &str, parts: &[Reduced]) -> Result<(), Fault> {
     text.push_str(name)?;
     text.push_str("(")?;
-    let mut between = "";
+    let mut later = false;
     for part in parts {
-        text.push_str(between)?;
+        if later {
+            text.push_str("; ")?;
+        }
         push_reduced(text, part)?;
-        between = "; ";
+        later = true;
     }
     Ok(text.push_str(")")?)
 }
