@@ -132,7 +132,7 @@ fn a_disk_keeps_files(rt: HostRuntime) -> Result<(), Fail> {
     by_shell(&rt, "rm disk/switch/bin/empty/?")?;
     assert!(rt; disk.put(&bin, b"bin", false).is_ok());
     assert!(rt; disk.sync().is_ok());
-    assert_eq!(rt; disk.clock(), 19);
+    assert_eq!(rt; disk.clock(), 17);
     assert!(rt; is_out_of_reach(&mut disk, alloc, &tool));
     assert!(rt; stands(&mut disk, alloc, &bin, b"bin", false));
     assert!(rt; disk.sync().is_ok());
