@@ -1,22 +1,22 @@
 -- Texts in byte order, and the fronts that they share.
-use Rattle.std.proofs.Common.{◌≡◌, ◌≢◌, ℕ, ◌+◌, ◌<◌, ◌≤◌, ◌⊎◌, inl, inr, ⊎_elim, Bool, true, false, List, [], ◌∷◌, ◌++◌, length, take, get_or, refl, sym, ◌∙◌, ap, subst, append_assoc, arith, IsTrue, cond, eqb, not}
-use Rattle.std.specs.Prelude.{bytes_eq, ◌&&◌}
+use Rattle.std.proofs.Common.{◌≡◌, ℕ, ◌+◌, ◌<◌, ◌⊎◌, inl, inr, Bool, true, false, List, [], ◌∷◌, ◌++◌, length, take, get_or, refl, sym, ◌∙◌, ap, subst, arith, cond, eqb}
+use Rattle.std.specs.Prelude.{◌&&◌}
 use Rattle.std.specs.List.{list_all}
-use Rattle.std.specs.Cmp.Lexicographic.{slice_cmp}
 use Rattle.std.specs.Ordering.{MatchOrdering, nat_cmp, ordering_reverse, ordering_then}
 use Rattle.std.specs.declared.cmp.Ordering.{Ordering}
 use Rattle.std.specs.declared.cmp.Ordering.TheVariants.{Less, Equal, Greater}
 use Rattle.std.proofs.lemmas.Bool.{eq-eqb, eqb-true, false≢true}
 use Rattle.std.proofs.lemmas.Cmp.{nat_cmp_total, nat_list_cmp_total, ranked, tied_itself}
 use Rattle.std.proofs.lemmas.List.{length-append, take_at}
-use Rattle.std.proofs.lemmas.Map.Lookups.{exact_bytes, exact_unsigned}
-use Rattle.opam_names.specs.Paths.{IsPath, IsRelative, is_above, is_more_after_slash, is_part, onto_first, parts}
+use Rattle.std.proofs.lemmas.Map.Lookups.{exact_bytes}
+use Rattle.opam_names.specs.ByteOrders.{byte_order}
+use Rattle.opam_names.specs.Paths.{IsPath, is_above, is_part, onto_first, parts}
 use Rattle.path_order.specs.Parting.{common_len}
 
 -- ---- the order
 
 abbrev pub C : List ℕ → List ℕ → Ordering
-C a b = slice_cmp nat_cmp a b
+C = byte_order
 
 pub not_itself : (a : List ℕ) → C a a ≡ Less → ⊥
 not_itself a less = let same = tied_itself nat_list_cmp_total a in cc

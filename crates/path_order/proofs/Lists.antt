@@ -1,24 +1,26 @@
 -- Lists of paths that are apart, and places in them.
-use Rattle.std.proofs.Common.{◌≡◌, ◌≢◌, ℕ, suc, ◌+◌, ◌-◌, ◌<◌, ◌≤◌, ◌⊎◌, inl, inr, Bool, true, false, List, [], ◌∷◌, ◌++◌, length, map, take, get_or, refl, sym, ◌∙◌, ap, subst, arith}
+use Rattle.std.proofs.Common.{◌≡◌, ◌≢◌, ℕ, suc, ◌+◌, ◌-◌, ◌<◌, ◌≤◌, inl, inr, true, false, List, [], ◌∷◌, ◌++◌, length, map, take, get_or, sym, ◌∙◌, ap, subst, arith}
 use Rattle.std.specs.List.{AllByRecursion, IsDistinct}
 use Rattle.std.specs.List.Sorted.{IsStrictlySortedBy}
-use Rattle.std.specs.Cmp.Lexicographic.{slice_cmp}
-use Rattle.std.specs.Ordering.{nat_cmp}
 use Rattle.std.specs.declared.cmp.Ordering.TheVariants.{Less}
 use Rattle.std.proofs.lemmas.Bool.{cases_order, false≢true}
 use Rattle.std.proofs.lemmas.Cmp.{nat_list_cmp_total}
 use Rattle.std.proofs.lemmas.List.{get_or-map, get_or-take, length-map, length-take, take-map}
 use Rattle.std.proofs.lemmas.Map.Keys.{Less-from_sorted, apart_from_distinct}
 use Rattle.opam_names.specs.Paths.{IsPath, is_above}
-use Rattle.path_order.specs.Apart.{AreApart, Rise}
+use Rattle.opam_names.specs.ByteOrders.{byte_order}
+use Rattle.path_order.specs.Apart.{AreApart}
 use Rattle.path_order.specs.Parting.{StandsLast, common_len}
-use Rattle.path_order.proofs.Fronts.{C, IsParent, above_less, is_false, less_from, not_above, not_back, not_itself, parent}
+use Rattle.path_order.proofs.Fronts.{C, IsParent, above_less, is_false, not_above, not_back, not_itself, parent}
+
+abbrev Rise : List (List ℕ) → Type 0
+Rise texts = IsStrictlySortedBy byte_order texts
 
 abbrev pub nth : List (List ℕ) → ℕ → List ℕ
 nth paths k = get_or paths k []
 
 pub rise_at : (paths : List (List ℕ)) (i j : ℕ) → Rise paths → i < j → j < length paths → C (nth paths i) (nth paths j) ≡ Less
-rise_at paths i j rise before within = Less-from_sorted (slice_cmp nat_cmp) paths i j [] rise before within
+rise_at paths i j rise before within = Less-from_sorted byte_order paths i j [] rise before within
 
 -- ---- the search by halves
 
@@ -92,7 +94,7 @@ rise_push : (paths : List (List ℕ)) (path : List ℕ) → Rise paths → ((k :
 unfolding IsStrictlySortedBy
 rise_push [] path rise after = (tt, tt)
 rise_push (p ∷ paths) path rise after =
-    (all_push (λ q. slice_cmp nat_cmp p q ≡ Less) paths path rise.0 (after 0 (omega arith)), rise_push paths path rise.1 (λ k within. after (suc k) (omega (arith, within))))
+    (all_push (λ q. byte_order p q ≡ Less) paths path rise.0 (after 0 (omega arith)), rise_push paths path rise.1 (λ k within. after (suc k) (omega (arith, within))))
 
 apart_push : (paths : List (List ℕ)) (path : List ℕ) → IsDistinct is_above paths → ((k : ℕ) → k < length paths → is_above (nth paths k) path ≡ false) → IsDistinct is_above (paths ++ path ∷ [])
 unfolding IsDistinct

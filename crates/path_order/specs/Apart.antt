@@ -2,17 +2,12 @@
 use Rattle.std.specs.Prelude.{ℕ, List, Bool, bytes_eq, ◌||◌}
 use Rattle.std.specs.List.{IsDistinct}
 use Rattle.std.specs.List.Sorted.{IsStrictlySortedBy}
-use Rattle.std.specs.Cmp.Lexicographic.{slice_cmp}
-use Rattle.std.specs.Ordering.{nat_cmp}
+use Rattle.opam_names.specs.ByteOrders.{byte_order}
 use Rattle.opam_names.specs.Paths.{is_above}
-
--- each stands before the next in byte order
-abbrev pub Rise : List (List ℕ) → Type 0
-Rise texts = IsStrictlySortedBy (slice_cmp nat_cmp) texts
 
 -- paths rise, and none is above a later one; no path is above one that stands before it
 pub record AreApart (paths : List (List ℕ)) : Type 0 where
-  pub rise : Rise paths
+  pub rise : IsStrictlySortedBy byte_order paths
   pub apart : IsDistinct is_above paths
 
 -- two paths meet where they are equal or one is above the other

@@ -8,4 +8,4 @@ mod texts;
 
 pub use pathed::Pathed;
 pub use search::{above_in, are_apart, place_of};
-pub use texts::{stands_before, text_above};
+pub use texts::stands_before;

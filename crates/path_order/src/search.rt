@@ -1,24 +1,23 @@
 // Paths in byte order.
 ghost use Rattle.std.specs.Prelude.{◌≡◌, ◌≢◌, ℕ, ◌<◌, ◌≤◌, ◌↔◌, true, false, List, [], map, length, slice_index_or, IsTrue, IfSome, IfNone};
-ghost use Rattle.std.specs.Cmp.Lexicographic.{slice_cmp};
-ghost use Rattle.std.specs.Ordering.{nat_cmp};
 ghost use Rattle.std.specs.declared.cmp.Ordering.TheVariants.{Less};
+ghost use Rattle.opam_names.specs.ByteOrders.{RisesBy, byte_order};
 ghost use Rattle.opam_names.specs.Paths.{IsPath, is_above};
-ghost use Rattle.path_order.specs.Apart.{AreApart, Rise};
+ghost use Rattle.path_order.specs.Apart.{AreApart};
 ghost use Rattle.path_order.specs.Parting.{StandsLast};
 
 use crate::Pathed;
-use crate::texts::{common_len, stands_before, text_above};
+use crate::texts::{common_len, stands_before};
 use opam_names::RelPath;
 
 /// How many of the paths stand before this text in byte order.
 pub fn place_of<T: Pathed>(list: &[T], text: &[u8]) -> usize
-    requires { Rise (map T.path list.now) }
+    requires { RisesBy T.path list.now }
     ensures within { result ≤ length list.now }
     ensures before { (k : ℕ) → k < result
-        → slice_cmp nat_cmp (slice_index_or (map T.path list.now) k []) text.now ≡ Less }
+        → byte_order (slice_index_or (map T.path list.now) k []) text.now ≡ Less }
     ensures from { (k : ℕ) → result ≤ k → k < length list.now
-        → slice_cmp nat_cmp (slice_index_or (map T.path list.now) k []) text.now ≢ Less }
+        → byte_order (slice_index_or (map T.path list.now) k []) text.now ≢ Less }
 {
     let mut least = 0;
     let mut most = list.len();
@@ -62,8 +61,10 @@ pub fn above_in<T: Pathed>(list: &[T], path: &RelPath) -> Option<usize>
     if at == list.len() {
         return None;
     }
-    let found = list[at].path().as_str().as_bytes();
-    let above = text_above(found, text);
+    let found = list[at].path();
+    // The text of a path says that it is one.
+    let _text = found.as_str();
+    let above = found.above(path);
     if above { Some(at) } else { None }
 }
 

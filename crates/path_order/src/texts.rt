@@ -1,16 +1,14 @@
-// Texts in byte order, their fronts, and which is above another.
+// Texts in byte order, and their fronts.
 ghost use Rattle.std.specs.Prelude.{◌≡◌, ◌≤◌, ◌↔◌, length, IsTrue};
-ghost use Rattle.std.specs.Cmp.Lexicographic.{slice_cmp};
-ghost use Rattle.std.specs.Ordering.{nat_cmp};
 ghost use Rattle.std.specs.declared.cmp.Ordering.TheVariants.{Less};
-ghost use Rattle.opam_names.specs.Paths.{is_above};
+ghost use Rattle.opam_names.specs.ByteOrders.{byte_order};
 ghost use Rattle.path_order.specs.Parting.{common_len};
 
 use std::cmp::Ordering;
 
 /// Whether the first text stands before the second in byte order.
 pub fn stands_before(first: &[u8], second: &[u8]) -> bool
-    ensures { IsTrue result ↔ (slice_cmp nat_cmp first.now second.now ≡ Less) }
+    ensures { IsTrue result ↔ (byte_order first.now second.now ≡ Less) }
 {
     match first.cmp(second) {
         Ordering::Less => true,
@@ -39,25 +37,4 @@ pub(crate) fn common_len(a: &[u8], b: &[u8]) -> usize
         }
     }
     len
-}
-
-/// Whether the second text is the first, a `/` and more.
-pub fn text_above(above: &[u8], below: &[u8]) -> bool
-    ensures { result ≡ is_above above.now below.now }
-{
-    let mut left = above;
-    let mut other = below;
-    while let [x, more @ ..] = left {
-        match other {
-            [y, rest @ ..] if x == y => {
-                left = more;
-                other = rest;
-            }
-            _ => return false,
-        }
-    }
-    match other {
-        [first, _, ..] => *first == b'/',
-        _ => false,
-    }
 }

@@ -1,4 +1,4 @@
-use Rattle.std.proofs.Common.{◌≡◌, ◌≢◌, ◌-◌, ◌<◌, ◌≤◌, ℕ, true, false, List, length, map, take, get_or, refl, sym, ap, subst, ◌∙◌, arith}
+use Rattle.std.proofs.Common.{◌≡◌, ◌≢◌, ◌<◌, ◌≤◌, ℕ, true, false, List, length, map, take, get_or, sym, ap, subst, ◌∙◌, arith}
 use Rattle.std.specs.declared.cmp.Ordering.TheVariants.{Less}
 use Rattle.std.proofs.lemmas.List.{length-map}
 use Rattle.opam_names.specs.Paths.{IsPath, is_above}
@@ -72,9 +72,9 @@ returns-else-above-clause-none g c =
     c.place_of-place.ensures.before c.place_of-place.ensures.from c.index-list-place.is (c.as_bytes.ensures.value ∙ c.as_str-2.ensures.value ∙ c.path.ensures) valid in
     let text-is : text ≡ c.args.path.now = c.as_bytes-text.ensures.value ∙ c.as_str.ensures.value in
     let under : c.place_of-at.result < length list = omega (arith, c.place_of-at.ensures.within, c.if-at-list.false) in
-    let value-is : c.as_bytes-found.result.now ≡ nth (map path list) c.place_of-at.result =
-    c.as_bytes-found.ensures.value ∙ c.as_str-3.ensures.value ∙ c.path-2.ensures ∙ path_at path list c.place_of-at.result c.index-list-at.result under c.index-list-at.is in
-    let free : is_above (nth (map path list) c.place_of-at.result) text ≡ false = ap (λ (x : List ℕ). is_above x text) (sym value-is) ∙ sym c.text_above-above.ensures ∙ c.if-above.false in
+    let value-is : c.path-found.result.now ≡ nth (map path list) c.place_of-at.result = c.path-found.ensures ∙ path_at path list c.place_of-at.result c.index-list-at.result under c.index-list-at.is in
+    let free : is_above (nth (map path list) c.place_of-at.result) text ≡ false =
+    ap (λ (x : List ℕ). is_above x text) (sym value-is) ∙ ap (λ (x : List ℕ). is_above c.path-found.result.now x) text-is ∙ sym c.above-above.ensures ∙ c.if-above.false in
     back path list text c.args.path.now text-is
     (there path list text o c.split_at.result.0.now c.common_len-len.result c.place_of-at.result c.requires parents c.common_len-len.ensures.value c.split_at.ensures.front c.place_of-at.ensures.before
     c.place_of-at.ensures.from (λ _. free))
@@ -83,21 +83,18 @@ pub returns-then-above-clause-some : goal.returns-then-above-clause-some
 returns-then-above-clause-some g c =
     let path = g.T.Pathed.path in
     let list = c.args.list.now in
-    let text = c.as_bytes-text.result.now in
-    let text-is : text ≡ c.args.path.now = c.as_bytes-text.ensures.value ∙ c.as_str.ensures.value in
     let under : c.place_of-at.result < length list = omega (arith, c.place_of-at.ensures.within, c.if-at-list.false) in
-    let value-is : c.as_bytes-found.result.now ≡ nth (map path list) c.place_of-at.result =
-    c.as_bytes-found.ensures.value ∙ c.as_str-3.ensures.value ∙ c.path-2.ensures ∙ path_at path list c.place_of-at.result c.index-list-at.result under c.index-list-at.is in
-    ap (λ (x : List ℕ). is_above x c.args.path.now) (sym value-is) ∙ ap (λ (x : List ℕ). is_above c.as_bytes-found.result.now x) (sym text-is) ∙ sym c.text_above-above.ensures ∙ c.if-above.true
+    let value-is : c.path-found.result.now ≡ nth (map path list) c.place_of-at.result = c.path-found.ensures ∙ path_at path list c.place_of-at.result c.index-list-at.result under c.index-list-at.is in
+    ap (λ (x : List ℕ). is_above x c.args.path.now) (sym value-is) ∙ sym c.above-above.ensures ∙ c.if-above.true
 
 pub returns-then-above-clause-valid : goal.returns-then-above-clause-valid
 returns-then-above-clause-valid g c =
     let path = g.T.Pathed.path in
     let list = c.args.list.now in
     let under : c.place_of-at.result < length list = omega (arith, c.place_of-at.ensures.within, c.if-at-list.false) in
-    let value-is : c.path-2.result.now ≡ nth (map path list) c.place_of-at.result = c.path-2.ensures ∙ path_at path list c.place_of-at.result c.index-list-at.result under c.index-list-at.is in
+    let value-is : c.path-found.result.now ≡ nth (map path list) c.place_of-at.result = c.path-found.ensures ∙ path_at path list c.place_of-at.result c.index-list-at.result under c.index-list-at.is in
     let P : List ℕ → Type 0 = λ x. IsPath x in
-    subst P value-is c.as_str-3.ensures.valid
+    subst P value-is c.as_str-text.ensures.valid
 
 pub returns-then-place-eq0-clause-none : goal.returns-then-place-eq0-clause-none
 returns-then-place-eq0-clause-none g c =
