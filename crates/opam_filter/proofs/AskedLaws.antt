@@ -1,5 +1,5 @@
 -- The value of a filter depends on the packages that it asks for alone.
-use Rattle.std.proofs.Common.{◌≡◌, ℕ, ◌||◌, Bool, true, false, not, cond, List, [], ◌∷◌, ◌++◌, filter, fold, map, refl, sym, ap, subst, ◌∙◌}
+use Rattle.std.proofs.Common.{◌≡◌, ℕ, ◌||◌, Bool, true, false, not, cond, List, [], ◌∷◌, ◌++◌, filter, map, refl, sym, ap, subst, ◌∙◌}
 use Rattle.std.proofs.lemmas.List.Folds.{list_any-append}
 use Rattle.std.proofs.lemmas.Slice.Eq.{bytes_eq-Decides}
 use Rattle.std.specs.FinMap.{get}
@@ -12,7 +12,7 @@ use Rattle.std.specs.declared.option.Option.TheVariants.{None, Some}
 use Rattle.opam_names.specs.Names.{is_name}
 use Rattle.opam_syntax.specs.Words.{scope_parts}
 use Rattle.opam_syntax.specs.declared.tree.Var.{Var}
-use Rattle.opam_names.proofs.RisingLists.{each_once_members, each_once_rises}
+use Rattle.opam_names.specs.ByteOrderLaws.{TextsRise}
 use Rattle.opam_filter.specs.Asked.{layer_names, names_in, names_in_text, names_of_scope}
 use Rattle.opam_filter.specs.Laws.{AgreeOn, AreEachOnce, AskedIsEnough, NamesRise, is_scope_among}
 use Rattle.opam_filter.specs.NameSets.{in_byte_order}
@@ -54,8 +54,8 @@ fewer : (small big : List (List ℕ)) (values others : Values) → ((name : List
 fewer small big values others within agree = λ variable h. agree variable (among small big within variable.scope h)
 
 -- the order does not matter
-in_order : (names : List (List ℕ)) (values others : Values) → AgreeOn (in_byte_order names) values others → AgreeOn names values others
-in_order names values others = fewer names (in_byte_order names) values others (λ name h. each_once_members names name ∙ h)
+in_order : TextsRise → (names : List (List ℕ)) (values others : Values) → AgreeOn (in_byte_order names) values others → AgreeOn names values others
+in_order rise names values others = fewer names (in_byte_order names) values others (λ name h. rise.members names name ∙ h)
 
 -- of names that are joined, each side
 first_of_two : (xs ys : List (List ℕ)) (values others : Values) → AgreeOn (xs ++ ys) values others → AgreeOn xs values others
@@ -172,20 +172,20 @@ layer_enough layer values others agree =
 all_enough : (filter : Filter) → IsEnough filter
 all_enough = ind-Filter IsEnough (λ layer parts is. subst (λ (x : Filter-F Filter). IsEnough (roll-Filter x)) is (layer_enough parts))
 
-pub asked_is_enough : AskedIsEnough
-asked_is_enough = record {
-  filters = λ filter values others agree. all_enough filter values others (in_order (names_in filter) values others agree);
-  texts = λ text values others agree. text_same values others text (in_order (names_in_text text) values others agree);
+pub asked_is_enough : TextsRise → AskedIsEnough
+asked_is_enough rise = record {
+  filters = λ filter values others agree. all_enough filter values others (in_order rise (names_in filter) values others agree);
+  texts = λ text values others agree. text_same values others text (in_order rise (names_in_text text) values others agree);
 }
 
 -- ---- names rise
 
-each_once : (names : List (List ℕ)) → AreEachOnce names (in_byte_order names)
-each_once names = record { rising = each_once_rises names; members = each_once_members names }
+each_once : TextsRise → (names : List (List ℕ)) → AreEachOnce names (in_byte_order names)
+each_once rise names = record { rising = rise.rising names; members = rise.members names }
 
-pub names_rise : NamesRise
-names_rise = record {
-  filters = λ filter. each_once (names_in filter);
-  texts = λ text. each_once (names_in_text text);
-  left = λ reduced. each_once (kept_names reduced);
+pub names_rise : TextsRise → NamesRise
+names_rise rise = record {
+  filters = λ filter. each_once rise (names_in filter);
+  texts = λ text. each_once rise (names_in_text text);
+  left = λ reduced. each_once rise (kept_names reduced);
 }
