@@ -5,7 +5,7 @@ use Rattle.std.specs.declared.option.Option.TheVariants.{None, Some}
 use Rattle.std.proofs.lemmas.Bool.Decides.{nat_tests}
 use Rattle.opam_filter.specs.declared.fault.FilterFault.{FilterFault}
 use Rattle.opam_filter.specs.Faults.{comes_before, earlier, earliest, place_of, rank_of}
-use Rattle.opam_filter.specs.Laws.{FirstFaultIsTold, IsAmong, IsTold}
+use Rattle.opam_filter.specs.Laws.{FirstFaultIsTold, IsAmong}
 use Rattle.opam_filter.proofs.Earliest.{below, earlier_assoc, earlier_left, earlier_right, not_before_on, some_fault}
 
 not_itself : (x p : ℕ) → below x p x p ≡ false

@@ -17,3 +17,4 @@ pub mod Judged
 pub mod Unconstrained
 pub mod Built
 pub mod FirstFault
+pub mod FaultLists

@@ -6,6 +6,7 @@ pub mod Values
 pub mod NameSets
 pub mod Asked
 pub mod Faults
+pub mod FaultLists
 pub mod Trees
 pub mod Reductions
 pub mod Sets

@@ -1,5 +1,5 @@
 -- What a set of packages meets, and what one package does (opam manual, package formulas).
-use Rattle.std.specs.Prelude.{ℕ, List, [], ◌∷◌, map, Bool, true, false, bytes_eq, ◌&&◌}
+use Rattle.std.specs.Prelude.{ℕ, List, [], ◌∷◌, Bool, true, false, bytes_eq, ◌&&◌}
 use Rattle.std.specs.List.{flat_map, list_all, list_any}
 use Rattle.opam_names.specs.ByteOrders.{RisesBy}
 use Rattle.opam_names.specs.declared.packages.Pkg.{Pkg}

@@ -32,7 +32,7 @@ pub use asking::{asked, asked_in};
 pub use evaluating::eval;
 pub use expanding::expand;
 pub use fault::FilterFault;
-pub use fault_laws::the_first_fault_is_told;
+pub use fault_laws::{faults_are_listed, the_first_fault_is_told};
 pub use filter::Filter;
 pub use formula::{Braces, Formula, Reduced, Test};
 pub use formula_laws::{
