@@ -1,0 +1,5 @@
+mod Aparts
+mod Finding
+mod Finds
+mod Gathering
+mod Texts
