@@ -14,3 +14,4 @@ pub mod Samples
 pub mod Rows
 pub mod Laws
 pub mod Printed
+pub mod Read

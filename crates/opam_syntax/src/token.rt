@@ -1,5 +1,5 @@
 // The tokens of an opam file.
-use crate::{EnvOp, RelOp, Word};
+use crate::{EnvOp, RelOp, Span, Word};
 use sqlite_items::Items;
 
 /// A word, a text or a sign.
@@ -25,4 +25,11 @@ pub enum Token {
     Or,
     Not,
     Defined,
+}
+
+/// A token and where it stands.
+#[derive(Drop)]
+pub struct PlacedToken {
+    pub token: Token,
+    pub span: Span,
 }

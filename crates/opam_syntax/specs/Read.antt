@@ -1,0 +1,34 @@
+-- What the parts of the reader hand on to one another, as the definitions see it. This project's own.
+use Rattle.std.specs.Prelude.{List, map}
+use Rattle.opam_syntax.specs.declared.entry.ReadContents.{ReadContents}
+use Rattle.opam_syntax.specs.declared.entry.ReadContents.TheVariants.{Field, Section}
+use Rattle.opam_syntax.specs.declared.entry.ReadEntry.{ReadEntry}
+use Rattle.opam_syntax.specs.declared.token.PlacedToken.{PlacedToken}
+use Rattle.opam_syntax.specs.Files.{Contents, FieldContents, SectionContents, Entry}
+use Rattle.opam_syntax.specs.Tokens.{Placed, placed}
+
+-- a token and where it stands
+abbrev pub placed_of : PlacedToken → Placed
+placed_of token = placed token.token token.span
+
+-- tokens and where they stand
+abbrev pub placed_tokens : List PlacedToken → List Placed
+placed_tokens tokens = map placed_of tokens
+
+-- what is in an item
+abbrev pub read_contents : ReadContents → Contents
+read_contents (Field value) = FieldContents value
+read_contents (Section fields) = SectionContents fields
+
+-- an item as it stands in a text
+abbrev pub entry_of : ReadEntry → Entry
+entry_of entry = record {
+  key = entry.key;
+  contents = read_contents entry.contents;
+  span = entry.span;
+  places = entry.places;
+}
+
+-- items as they stand in a text
+abbrev pub read_entries : List ReadEntry → List Entry
+read_entries entries = map entry_of entries
