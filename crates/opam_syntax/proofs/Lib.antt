@@ -21,3 +21,7 @@ pub mod PrintValues
 pub mod PrintFiles
 pub mod PrintNames
 pub mod PrintLaw
+pub mod WordsRead
+pub mod TextsRead
+pub mod GapsRead
+pub mod LexerRead

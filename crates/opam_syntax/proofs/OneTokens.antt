@@ -125,6 +125,17 @@ no_text e h (gap f p) = gap_quote f e
 no_text e h (single f p) = single_quote f e
 no_text e h (text {text = t} {rest = r} f i p) = let g = quote_of e f in h t r (quoted_too g.0 g.1 i)
 
+-- what stands after a text
+pub after_text : {total : ℕ} {bytes inside t r : List ℕ} {long : Bool} {ts : List Placed} → first bytes ≡ Quote long inside → IsInside long inside t r
+    → AreTokens total bytes ts → (more : List Placed) × AreTokens total r more
+after_text e i (ends f) = end_quote f e
+after_text e i (gap f p) = gap_quote f e
+after_text e i (single f p) = single_quote f e
+after_text e i (text {tokens = ts} f j p) =
+    let g = quote_of e f in
+    let h = same_inside i (quoted_too g.0 g.1 j) in
+    (ts, tokens_too h.1 p)
+
 pub no_inside : {long : Bool} {bytes t r : List ℕ} → piece long bytes ≡ NoPiece → IsInside long bytes t r → ⊥
 no_inside e (closes f) = let g = sym e ∙ f in cc
 no_inside e (gives f p) = let g = sym e ∙ f in cc

@@ -15,3 +15,4 @@ pub mod Rows
 pub mod Laws
 pub mod Printed
 pub mod Read
+pub mod Lexed

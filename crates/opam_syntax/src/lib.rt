@@ -4,18 +4,25 @@
 mod entry;
 mod fault;
 mod file;
+mod gaps;
 mod laws;
+mod lexer;
+mod limits;
 mod printing;
 mod printing_laws;
 mod rows;
+mod signs;
+mod texts;
 mod token;
 mod tree;
+mod words;
 
 pub use fault::SyntaxFault;
 pub use file::{File, Item, Key, Label, Word};
 pub use laws::{
     files_have_no_fault, one_derivation, one_fault_for_bytes, one_tree_for_bytes, spans_are_within,
 };
+pub use limits::FILE_LIMIT;
 pub use printing::print_file;
 pub use printing_laws::printing_reads_back;
 pub use rows::{rows_are_faulty, rows_are_spelled, sample_is_printed, values_are_printed};
