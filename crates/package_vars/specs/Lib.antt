@@ -1,0 +1,2 @@
+pub mod BuildVariables
+pub mod Steps
