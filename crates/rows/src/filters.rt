@@ -43,18 +43,23 @@ fn empty(alloc: Global, vars: &mut Vars) -> Result<String, Fault> {
     plain(alloc, "noted")
 }
 
-// In quotes it is a text, and else a boolean.
-fn set(alloc: Global, vars: &mut Vars, name: &Word, value: &Word) -> Result<String, Fault> {
-    let value = if value.quoted {
-        VarValue::Text(Text::from_str(alloc, value.text()?)?)
+/// In quotes it is a text, and else a boolean.
+pub fn value_of(alloc: Global, word: &Word) -> Result<VarValue, Fault> {
+    if word.quoted {
+        Ok(VarValue::Text(Text::from_str(alloc, word.text()?)?))
     } else {
-        VarValue::Flag(value.is("true"))
-    };
+        Ok(VarValue::Flag(word.is("true")))
+    }
+}
+
+fn set(alloc: Global, vars: &mut Vars, name: &Word, value: &Word) -> Result<String, Fault> {
+    let value = value_of(alloc, value)?;
     vars.set(variable(alloc, name.text()?)?, value)?;
     plain(alloc, "noted")
 }
 
-fn value(alloc: Global, vars: &Vars, name: &Word) -> Result<String, Fault> {
+/// The value that a variable has.
+pub fn value(alloc: Global, vars: &Vars, name: &Word) -> Result<String, Fault> {
     match vars.value(&variable(alloc, name.text()?)?) {
         None => plain(alloc, "undefined"),
         Some(VarValue::Flag(flag)) => plain(alloc, if *flag { "true" } else { "false" }),
@@ -184,8 +189,8 @@ fn show_atoms(alloc: Global, tree: &[Word]) -> Result<String, Fault> {
     Ok(text)
 }
 
-// Packages between commas.
-fn set_of(alloc: Global, set: &Word) -> Result<Vec<Pkg>, Fault> {
+/// Packages between commas.
+pub fn set_of(alloc: Global, set: &Word) -> Result<Vec<Pkg>, Fault> {
     let mut pkgs = Vec::new(alloc);
     for text in set.text()?.split(',') {
         if !text.is_empty() {

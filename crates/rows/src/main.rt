@@ -18,22 +18,26 @@ mod show;
 #[cfg(test)]
 mod tests;
 mod trees;
+mod variables;
 mod words;
 
 use devices::Devices;
 use fault::Fault;
 use opam_filter::Vars;
+use package_vars::Facts;
 use script::{Call, read_call};
 use std::alloc::{AllocError, Global};
 use std::io;
 use std::io::{BufRead, BufReader, BufWriter, Write};
 use std::sync::Wait;
 use std::thread::Threads;
+use variables::no_facts;
 
 fn main(rt: HostRuntime) -> io::Result<()> {
     let alloc = rt.alloc();
     let mut world = World {
         vars: Vars::empty(alloc),
+        facts: no_facts(alloc),
         devices: Devices::new(alloc),
     };
     let mut out = BufWriter::new(alloc, io::writer(&rt))?;
@@ -48,6 +52,7 @@ fn main(rt: HostRuntime) -> io::Result<()> {
 #[derive(Drop)]
 struct World {
     vars: Vars,
+    facts: Facts,
     devices: Devices,
 }
 
@@ -95,6 +100,9 @@ fn answer(alloc: Global, call: &Call, world: &mut World) -> Result<String, Fault
         return Ok(text);
     }
     if let Some(text) = filters::answer(alloc, call, &mut world.vars)? {
+        return Ok(text);
+    }
+    if let Some(text) = variables::answer(alloc, call, &mut world.facts)? {
         return Ok(text);
     }
     if let Some(text) = devices::answer(alloc, call, &mut world.devices)? {
