@@ -5,10 +5,13 @@ use crate::lexer::Word;
 use crate::names::path_of;
 use crate::script::Call;
 use crate::show::{plain, quoted};
-use crash_disk::{Claim, Disk, DiskFault, DiskRead, Look, Write, write_all};
-use opam_names::{Items, RelPath};
+use crate::writes::writes_of;
+use crash_disk::{Choice, Claim, Disk, DiskFault, DiskRead, Look, MemoryDisk, write_all};
 use outside_io::Failed;
 use std::alloc::Global;
+
+/// Longer files of an image are not shown, in bytes.
+const LONGEST_SHOWN: u64 = 65536;
 
 pub fn answer(alloc: Global, call: &Call, devices: &mut Devices) -> Result<Option<String>, Fault> {
     let answer = match (call.name.as_str(), call.words.as_slice()) {
@@ -25,12 +28,16 @@ pub fn answer(alloc: Global, call: &Call, devices: &mut Devices) -> Result<Optio
         ("write_all", words) => write(alloc, devices, words),
         ("Disk::clock", []) => clock(alloc, devices),
         ("MemoryDisk::calls", []) => disk_calls(alloc, devices),
+        ("MemoryDisk::image", [moment, choice, paths @ ..]) => {
+            image(alloc, devices, moment, choice, paths)
+        }
         _ => return Ok(None),
     };
     Ok(Some(answer?))
 }
 
-fn done(alloc: Global, answer: Result<(), Failed>) -> Result<String, Fault> {
+/// Whether a call of a device was done.
+pub fn done(alloc: Global, answer: Result<(), Failed>) -> Result<String, Fault> {
     plain(alloc, if answer.is_ok() { "done" } else { "failed" })
 }
 
@@ -148,38 +155,54 @@ fn disk_calls(alloc: Global, devices: &mut Devices) -> Result<String, Fault> {
     Ok(format!(in alloc; "{calls}, {starved} without memory")?)
 }
 
-// `a "text" b removed c text`: each path with the text that is put there, executable where it stands without quotes.
 fn write(alloc: Global, devices: &mut Devices, words: &[Word]) -> Result<String, Fault> {
-    let mut writes = Vec::new(alloc);
-    let mut path = None;
-    for word in words {
-        path = add_write(alloc, &mut writes, path, word)?;
-    }
-    if path.is_some() {
-        return Err(Fault::Line("a path has no text"));
-    }
+    let writes = writes_of(alloc, words)?;
     let mut disk = devices.take_disk(alloc);
     let answer = write_all(&mut disk, writes.as_slice());
     devices.keep_disk(disk);
     done(alloc, answer)
 }
 
-// A path is kept until its text comes.
-fn add_write(
+// What stands at these paths of the image that a stop at a moment leaves; the disk stays as it is.
+fn image(
     alloc: Global,
-    writes: &mut Vec<Write>,
-    path: Option<RelPath>,
-    word: &Word,
-) -> Result<Option<RelPath>, Fault> {
-    let Some(path) = path else {
-        return Ok(Some(path_of(alloc, word)?));
-    };
-    if word.is("removed") {
-        writes.push(Write::Remove { path })?;
-        return Ok(None);
+    devices: &mut Devices,
+    moment: &Word,
+    choice: &Word,
+    paths: &[Word],
+) -> Result<String, Fault> {
+    let moment = moment.number()?;
+    let choice = choice_of(choice)?;
+    let disk = devices.take_disk(alloc);
+    let image = image_of(&disk, moment, choice);
+    devices.keep_disk(disk);
+    show_paths(alloc, &mut image?, paths)
+}
+
+fn image_of(disk: &MemoryDisk, moment: u64, choice: Choice) -> Result<MemoryDisk, Fault> {
+    if moment > disk.clock() {
+        return Err(Fault::Line("the disk has not come to this moment"));
     }
-    let bytes = Items::from_slice(alloc, word.bytes.as_slice())?;
-    let exec = !word.quoted;
-    writes.push(Write::Put { path, bytes, exec })?;
-    Ok(None)
+    Ok(disk.image(moment, choice)?)
+}
+
+fn choice_of(word: &Word) -> Result<Choice, Fault> {
+    match word.text()? {
+        "before" => Ok(Choice::Before),
+        "after" => Ok(Choice::After),
+        "gone" => Ok(Choice::Gone),
+        "junk" => Ok(Choice::Junk),
+        _ => Err(Fault::Line("a word is no choice")),
+    }
+}
+
+fn show_paths(alloc: Global, disk: &mut MemoryDisk, paths: &[Word]) -> Result<String, Fault> {
+    let mut text = String::from_str(alloc, "image:")?;
+    for word in paths {
+        let path = path_of(alloc, word)?;
+        let read = disk.read(alloc, &path, LONGEST_SHOWN);
+        text.push_str(" ")?;
+        text.push_str(show_read(alloc, read)?.as_str())?;
+    }
+    Ok(text)
 }

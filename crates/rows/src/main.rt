@@ -9,8 +9,11 @@ mod fault;
 mod files;
 mod filter_show;
 mod filters;
+mod journal;
 mod lexer;
+mod lists;
 mod names;
+mod paths;
 mod reports;
 mod runs;
 mod script;
@@ -20,6 +23,7 @@ mod tests;
 mod trees;
 mod variables;
 mod words;
+mod writes;
 
 use devices::Devices;
 use fault::Fault;
@@ -93,6 +97,12 @@ fn answer(alloc: Global, call: &Call, world: &mut World) -> Result<String, Fault
     if let Some(text) = names::answer(alloc, call)? {
         return Ok(text);
     }
+    if let Some(text) = lists::answer(alloc, call)? {
+        return Ok(text);
+    }
+    if let Some(text) = paths::answer(alloc, call)? {
+        return Ok(text);
+    }
     if let Some(text) = words::answer(alloc, call)? {
         return Ok(text);
     }
@@ -112,6 +122,9 @@ fn answer(alloc: Global, call: &Call, world: &mut World) -> Result<String, Fault
         return Ok(text);
     }
     if let Some(text) = disk_calls::answer(alloc, call, &mut world.devices)? {
+        return Ok(text);
+    }
+    if let Some(text) = journal::answer(alloc, call, &mut world.devices)? {
         return Ok(text);
     }
     if let Some(text) = reports::answer(alloc, call)? {

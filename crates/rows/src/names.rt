@@ -1,13 +1,14 @@
 // Calls of `opam_names`.
-ghost use Rattle.std.specs.Prelude.{◌<◌, ◌^◌, length};
+ghost use Rattle.std.specs.Prelude.{◌<◌, ◌^◌, length, IfOk};
+ghost use Rattle.opam_names.specs.ByteOrders.{NeverFallsBy};
 
 use crate::fault::Fault;
 use crate::lexer::Word;
 use crate::script::Call;
 use crate::show::{answered, plain, quoted};
 use opam_names::{
-    Name, Pkg, ReadFault, RelPath, Version, keep_first_of_each, rises_by_bytes, sort_by_bytes,
-    text_order,
+    Name, Pkg, ReadFault, RelPath, Version, count_before_bytes, find_by_bytes, has_bytes,
+    keep_first_of_each, order_is_stable, rises_by_bytes, sort_by_bytes, text_order,
 };
 use std::alloc::Global;
 use std::cmp::Ordering;
@@ -37,6 +38,9 @@ pub fn answer(alloc: Global, call: &Call) -> Result<Option<String>, Fault> {
         ("sort_by_bytes", words) => sort(alloc, words),
         ("keep_first_of_each", words) => keep_first(alloc, words),
         ("rises_by_bytes", words) => rise(alloc, words),
+        ("count_before_bytes", [key, words @ ..]) => count_before(alloc, key, words),
+        ("find_by_bytes", [key, words @ ..]) => find(alloc, key, words),
+        ("has_bytes", [key, words @ ..]) => has(alloc, key, words),
         _ => return Ok(None),
     };
     Ok(Some(answer?))
@@ -226,4 +230,33 @@ fn keep_first(alloc: Global, words: &[Word]) -> Result<String, Fault> {
 
 fn rise(alloc: Global, words: &[Word]) -> Result<String, Fault> {
     answered(alloc, rises_by_bytes(pkgs_of(alloc, words)?.as_slice()))
+}
+
+// Sorted first, as a search asks for.
+fn sorted_pkgs(alloc: Global, words: &[Word]) -> Result<Vec<Pkg>, Fault>
+    ensures { IfOk result (λ pkgs. NeverFallsBy (λ pkg. pkg.name) pkgs.items) }
+{
+    let mut pkgs = pkgs_of(alloc, words)?;
+    sort_by_bytes(&mut pkgs)?;
+    order_is_stable::<Pkg>();
+    Ok(pkgs)
+}
+
+fn count_before(alloc: Global, key: &Word, words: &[Word]) -> Result<String, Fault> {
+    let pkgs = sorted_pkgs(alloc, words)?;
+    let count = count_before_bytes(pkgs.as_slice(), key.bytes.as_slice());
+    Ok(format!(in alloc; "{count}")?)
+}
+
+fn find(alloc: Global, key: &Word, words: &[Word]) -> Result<String, Fault> {
+    let pkgs = sorted_pkgs(alloc, words)?;
+    match find_by_bytes(pkgs.as_slice(), key.bytes.as_slice()) {
+        Some(place) => Ok(format!(in alloc; "at {place}")?),
+        None => plain(alloc, "nowhere"),
+    }
+}
+
+fn has(alloc: Global, key: &Word, words: &[Word]) -> Result<String, Fault> {
+    let pkgs = sorted_pkgs(alloc, words)?;
+    answered(alloc, has_bytes(pkgs.as_slice(), key.bytes.as_slice()))
 }

@@ -1,0 +1,245 @@
+// Calls of `switch_journal` over a disk in memory.
+ghost use Rattle.std.specs.Prelude.{◌≡◌, ◌<◌, ◌^◌, codes, not, IfOk};
+ghost use Rattle.std.specs.List.{list_all};
+ghost use Rattle.opam_names.specs.Paths.{is_above};
+ghost use Rattle.crash_disk.specs.Writes.{path_of};
+ghost use Rattle.switch_journal.specs.Commits.{is_outside};
+
+use crate::devices::Devices;
+use crate::disk_calls::done;
+use crate::fault::Fault;
+use crate::lexer::Word;
+use crate::script::Call;
+use crate::show::{plain, quoted};
+use crate::writes::{push_writes, writes_of};
+use crash_disk::{DiskFault, Write};
+use opam_names::{Items, OutOfMemory, RelPath};
+use std::alloc::Global;
+use switch_journal::{
+    Gated, Ready, ReadySlot, commit, gate_path_of, make_ready, make_slot, read_record, read_slot,
+    record_path_of, redo, slot_gate_of, slot_path_of, write_slot,
+};
+
+/// Numbers of records in a script are smaller.
+const MOST_RECORDS: u64 = 1000000;
+
+pub fn answer(alloc: Global, call: &Call, devices: &mut Devices) -> Result<Option<String>, Fault> {
+    let answer = match (call.name.as_str(), call.words.as_slice()) {
+        ("record_path_of", [number]) => shown(alloc, record_path_of(alloc, number.number()?)),
+        ("gate_path_of", [number]) => shown(alloc, gate_path_of(alloc, number.number()?)),
+        ("slot_path_of", [slot]) => shown(alloc, slot_path_of(alloc, slot_of(slot)?)),
+        ("slot_gate_of", [slot]) => shown(alloc, slot_gate_of(alloc, slot_of(slot)?)),
+        ("make_ready", [number, text, writes @ ..]) => show_ready(alloc, number, text, writes),
+        ("commit", [number, text, writes @ ..]) => run_commit(alloc, devices, number, text, writes),
+        ("redo", writes) => run_redo(alloc, devices, writes),
+        ("make_slot", [slot, state, text, first, count]) => {
+            show_slot(alloc, slot, state, text, first, count)
+        }
+        ("write_slot", [slot, state, text, first, count]) => {
+            run_slot(alloc, devices, slot, state, text, first, count)
+        }
+        ("read_record", [number, limit]) => read_a_record(alloc, devices, number, limit),
+        ("read_slot", [slot, limit]) => read_a_slot(alloc, devices, slot, limit),
+        _ => return Ok(None),
+    };
+    Ok(Some(answer?))
+}
+
+fn shown(alloc: Global, path: Result<RelPath, OutOfMemory>) -> Result<String, Fault> {
+    quoted(alloc, path?.as_str().as_bytes())
+}
+
+// Slot 1 is named by true.
+fn slot_of(word: &Word) -> Result<bool, Fault> {
+    match word.text()? {
+        "0" => Ok(false),
+        "1" => Ok(true),
+        _ => Err(Fault::Line("a word is no slot")),
+    }
+}
+
+// A record's number: less than 2^63.
+fn record_number(word: &Word) -> Result<u64, Fault>
+    ensures { IfOk result (λ number. number < 2 ^ 63) }
+{
+    let number = word.number()?;
+    if number < 9223372036854775808 {
+        Ok(number)
+    } else {
+        Err(Fault::Line("a number of a record is too large"))
+    }
+}
+
+fn ready_of(alloc: Global, number: &Word, text: &Word, writes: &[Word]) -> Result<Ready, Fault> {
+    let number = record_number(number)?;
+    let bytes = Items::from_slice(alloc, text.bytes.as_slice())?;
+    Ok(make_ready(alloc, number, bytes, writes_of(alloc, writes)?)?)
+}
+
+fn show_ready(alloc: Global, number: &Word, text: &Word, writes: &[Word]) -> Result<String, Fault> {
+    let ready = ready_of(alloc, number, text, writes)?;
+    let mut text = String::from_str(alloc, "record:")?;
+    push_writes(&mut text, ready.entry.as_slice())?;
+    text.push_str("; gate:")?;
+    push_writes(&mut text, ready.gate.as_slice())?;
+    text.push_str("; work:")?;
+    push_writes(&mut text, ready.writes.as_slice())?;
+    Ok(text)
+}
+
+fn run_commit(
+    alloc: Global,
+    devices: &mut Devices,
+    number: &Word,
+    text: &Word,
+    writes: &[Word],
+) -> Result<String, Fault> {
+    let ready = ready_of(alloc, number, text, writes)?;
+    if !are_outside(alloc, ready.writes.as_slice())? {
+        return Err(Fault::Line("a record's work lies in the journal's folder"));
+    }
+    let mut disk = devices.take_disk(alloc);
+    let answer = commit(&mut disk, &ready);
+    devices.keep_disk(disk);
+    done(alloc, answer)
+}
+
+fn run_redo(alloc: Global, devices: &mut Devices, writes: &[Word]) -> Result<String, Fault> {
+    let writes = writes_of(alloc, writes)?;
+    if !are_outside(alloc, writes.as_slice())? {
+        return Err(Fault::Line("a record's work lies in the journal's folder"));
+    }
+    let mut disk = devices.take_disk(alloc);
+    let answer = redo(&mut disk, writes.as_slice());
+    devices.keep_disk(disk);
+    done(alloc, answer)
+}
+
+// Whether no write is of a path below the folder of the journal.
+fn are_outside(alloc: Global, writes: &[Write]) -> Result<bool, Fault>
+    ensures { IfOk result (λ are. are ≡ list_all is_outside writes.now) }
+{
+    let folder = RelPath::fixed(alloc, ".opam-switch")?;
+    Ok(all_outside(&folder, writes))
+}
+
+fn all_outside(folder: &RelPath, writes: &[Write]) -> bool
+    requires { folder.now ≡ codes ".opam-switch" }
+    ensures { result ≡ list_all is_outside writes.now }
+{
+    let mut rest = writes;
+    while let [write, after @ ..] = rest {
+        if !is_outside_of(folder, write) {
+            return false;
+        }
+        rest = after;
+    }
+    true
+}
+
+fn is_outside_of(folder: &RelPath, write: &Write) -> bool
+    ensures { result ≡ not (is_above folder.now (path_of write.now)) }
+{
+    match write {
+        Write::Put { path, .. } => !folder.above(path),
+        Write::Remove { path } => !folder.above(path),
+    }
+}
+
+fn slot_ready(
+    alloc: Global,
+    slot: &Word,
+    state: &Word,
+    text: &Word,
+    first: &Word,
+    count: &Word,
+) -> Result<ReadySlot, Fault> {
+    let slot = slot_of(slot)?;
+    let is_open = match state.text()? {
+        "open" => true,
+        "shut" => false,
+        _ => return Err(Fault::Line("a gate is open or shut")),
+    };
+    let first = first.number()?;
+    let count = count.number()?;
+    if first >= MOST_RECORDS || count >= MOST_RECORDS {
+        return Err(Fault::Line("a number of records is too large"));
+    }
+    let bytes = Items::from_slice(alloc, text.bytes.as_slice())?;
+    Ok(make_slot(alloc, slot, is_open, bytes, first, count)?)
+}
+
+fn show_slot(
+    alloc: Global,
+    slot: &Word,
+    state: &Word,
+    text: &Word,
+    first: &Word,
+    count: &Word,
+) -> Result<String, Fault> {
+    let ready = slot_ready(alloc, slot, state, text, first, count)?;
+    let mut text = String::from_str(alloc, "shut:")?;
+    push_writes(&mut text, ready.shut.as_slice())?;
+    text.push_str("; slot:")?;
+    push_writes(&mut text, ready.slot.as_slice())?;
+    text.push_str("; gate:")?;
+    push_writes(&mut text, ready.gate.as_slice())?;
+    text.push_str("; old:")?;
+    push_writes(&mut text, ready.old.as_slice())?;
+    Ok(text)
+}
+
+fn run_slot(
+    alloc: Global,
+    devices: &mut Devices,
+    slot: &Word,
+    state: &Word,
+    text: &Word,
+    first: &Word,
+    count: &Word,
+) -> Result<String, Fault> {
+    let ready = slot_ready(alloc, slot, state, text, first, count)?;
+    let mut disk = devices.take_disk(alloc);
+    let answer = write_slot(&mut disk, &ready);
+    devices.keep_disk(disk);
+    done(alloc, answer)
+}
+
+fn read_a_record(
+    alloc: Global,
+    devices: &mut Devices,
+    number: &Word,
+    limit: &Word,
+) -> Result<String, Fault> {
+    let number = number.number()?;
+    let limit = limit.number()?;
+    let mut disk = devices.take_disk(alloc);
+    let answer = read_record(&mut disk, alloc, number, limit);
+    devices.keep_disk(disk);
+    show_gated(alloc, answer)
+}
+
+fn read_a_slot(
+    alloc: Global,
+    devices: &mut Devices,
+    slot: &Word,
+    limit: &Word,
+) -> Result<String, Fault> {
+    let slot = slot_of(slot)?;
+    let limit = limit.number()?;
+    let mut disk = devices.take_disk(alloc);
+    let answer = read_slot(&mut disk, alloc, slot, limit);
+    devices.keep_disk(disk);
+    show_gated(alloc, answer)
+}
+
+fn show_gated(alloc: Global, answer: Result<Gated, DiskFault>) -> Result<String, Fault> {
+    match answer {
+        Ok(Gated::Shut) => plain(alloc, "shut"),
+        Ok(Gated::Absent) => plain(alloc, "absent"),
+        Ok(Gated::TooLong) => plain(alloc, "too long"),
+        Ok(Gated::Text(bytes)) => quoted(alloc, bytes.as_slice()),
+        Err(DiskFault::Failed) => plain(alloc, "failed"),
+        Err(DiskFault::Memory) => Err(Fault::Memory),
+    }
+}

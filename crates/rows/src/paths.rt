@@ -1,0 +1,64 @@
+// Calls of `path_order`, on lists of paths.
+ghost use Rattle.std.specs.Prelude.{◌≡◌, List, ℕ, IfOk, map};
+ghost use Rattle.path_order.specs.Apart.{AreApart};
+
+use crate::fault::Fault;
+use crate::lexer::Word;
+use crate::names::path_of;
+use crate::script::Call;
+use crate::show::{answered, plain};
+use opam_names::RelPath;
+use path_order::{above_in, are_apart, place_of, stands_before};
+use std::alloc::Global;
+
+/// A path, and its place among the words.
+type Numbered = (RelPath, usize);
+
+pub fn answer(alloc: Global, call: &Call) -> Result<Option<String>, Fault> {
+    let answer = match (call.name.as_str(), call.words.as_slice()) {
+        ("are_apart", words) => answered(alloc, are_apart(listed(alloc, words)?.as_slice())),
+        ("place_of", [text, words @ ..]) => find_place(alloc, text, words),
+        ("above_in", [path, words @ ..]) => find_above(alloc, path, words),
+        ("stands_before", [one, other]) => answered(
+            alloc,
+            stands_before(one.bytes.as_slice(), other.bytes.as_slice()),
+        ),
+        _ => return Ok(None),
+    };
+    Ok(Some(answer?))
+}
+
+fn listed(alloc: Global, words: &[Word]) -> Result<Vec<Numbered>, Fault> {
+    let mut list = Vec::new(alloc);
+    for word in words {
+        list.push((path_of(alloc, word)?, list.len()))?;
+    }
+    Ok(list)
+}
+
+// A list for a search.
+fn apart(alloc: Global, words: &[Word]) -> Result<Vec<Numbered>, Fault>
+    ensures { IfOk result (λ list. AreApart (map (λ entry. entry.0) list.items)) }
+{
+    let list = listed(alloc, words)?;
+    if are_apart(list.as_slice()) {
+        Ok(list)
+    } else {
+        Err(Fault::Line("the paths do not rise, or one is above another"))
+    }
+}
+
+fn find_place(alloc: Global, text: &Word, words: &[Word]) -> Result<String, Fault> {
+    let list = apart(alloc, words)?;
+    let place = place_of(list.as_slice(), text.bytes.as_slice());
+    Ok(format!(in alloc; "{place}")?)
+}
+
+fn find_above(alloc: Global, path: &Word, words: &[Word]) -> Result<String, Fault> {
+    let path = path_of(alloc, path)?;
+    let list = apart(alloc, words)?;
+    match above_in(list.as_slice(), &path) {
+        Some(place) => Ok(format!(in alloc; "at {place}")?),
+        None => plain(alloc, "none"),
+    }
+}
