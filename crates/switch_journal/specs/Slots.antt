@@ -1,9 +1,10 @@
 -- A slot that is written: what makes it ready, and what the journal is on the way and then. This project's own. The slot's gate is
 -- shut first, then the slot stands, then its gate, and then the gates and records that it makes needless are gone.
-use Rattle.std.specs.Prelude.{◌≡◌, ◌⊎◌, ℕ, zero, suc, ◌+◌, ◌<◌, ◌^◌, List, [], ◌∷◌, Bool, true, false, length, is_some, if◌then◌else◌}
+use Rattle.std.specs.Prelude.{◌≡◌, ◌⊎◌, ℕ, zero, suc, ◌+◌, ◌<◌, ◌^◌, List, [], ◌∷◌, ◌++◌, Bool, true, false, length, is_some, if◌then◌else◌}
 use Rattle.std.specs.declared.option.Option.{Option}
 use Rattle.std.specs.declared.option.Option.TheVariants.{None, Some}
 use Rattle.crash_disk.specs.Disks.{State, Tree}
+use Rattle.crash_disk.specs.Writes.{paths_of}
 use Rattle.crash_disk.specs.declared.batch.Write.{Write}
 use Rattle.crash_disk.specs.declared.batch.Write.TheVariants.{Put, Remove}
 use Rattle.switch_journal.specs.Places.{gate_path, gate_text, record_path, slot_gate, slot_path}
@@ -46,6 +47,10 @@ old_writes k (suc n) = Remove (gate_path k) ∷ Remove (record_path k) ∷ old_w
 
 abbrev pub ready_slot : Bool → Bool → List ℕ → ℕ → ℕ → ReadySlot
 ready_slot slot is_open text first count = record { shut = shut_writes slot is_open; slot = slot_writes slot text; gate = slot_gate_writes slot; old = old_writes first count }
+
+-- what is touched as the slot is written
+abbrev pub paths_of_slot : ReadySlot → List (List ℕ)
+paths_of_slot ready = paths_of ready.shut ++ paths_of ready.slot ++ paths_of ready.gate ++ paths_of ready.old
 
 -- the slot was made ready for this journal, and the disk is at rest with it
 pub record SlotBegins (j : Journal) (slot : Bool) (text : List ℕ) (ready : ReadySlot) (told : Option State) : Type 0 where

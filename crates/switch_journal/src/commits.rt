@@ -1,8 +1,9 @@
 // The commit of a record, and the opening that does the last one's work again.
 ghost use Rattle.std.specs.Prelude.{◌≡◌, ◌+◌, ◌<◌, ◌^◌, ℕ, List, IsTrue, IfOk, OnOk};
 ghost use Rattle.std.specs.List.{list_all};
-ghost use Rattle.crash_disk.specs.Effects.{Advances, Fails, Touches};
+ghost use Rattle.crash_disk.specs.Effects.{Fails, Touches};
 ghost use Rattle.crash_disk.specs.Stops.{StopsLeave};
+ghost use Rattle.crash_disk.specs.Writes.{paths_of};
 ghost use Rattle.switch_journal.specs.Commits.{Begins, entry_writes, gate_writes, is_outside, paths_of_ready, ready_with};
 ghost use Rattle.switch_journal.specs.Texts.{IsBeforeOrAfter, IsOldOrSame, Journal, RestsAs, TellsAs, with_record};
 
@@ -94,7 +95,7 @@ pub fn commit<D: Disk>(disk: &mut D, ready: &Ready) -> Result<(), Failed>
 pub fn redo<D: Disk>(disk: &mut D, last: &[Write]) -> Result<(), Failed>
     requires { IsTrue (list_all is_outside last.now) }
     ensures cause { Fails D.Disk disk.old disk.new result }
-    ensures goes { Advances D.Disk disk.old disk.new }
+    ensures touches { Touches D.Disk (paths_of last.now) disk.old disk.new }
     // A stop at any moment leaves what one before might have left, or what reads as the same journal.
     ensures crash { (j : Journal) → last.now ≡ j.last → TellsAs j (D.told disk.old)
         → StopsLeave D.Disk (IsOldOrSame j (D.told disk.old)) disk.old disk.new }

@@ -1,8 +1,8 @@
 // The writing of a slot.
 ghost use Rattle.std.specs.Prelude.{◌≡◌, ◌+◌, ◌<◌, ◌≤◌, ◌-◌, ◌^◌, ℕ, List, Bool, IfOk, OnOk};
-ghost use Rattle.crash_disk.specs.Effects.{Advances, Fails};
+ghost use Rattle.crash_disk.specs.Effects.{Fails, Touches};
 ghost use Rattle.crash_disk.specs.Stops.{StopsLeave};
-ghost use Rattle.switch_journal.specs.Slots.{IsSlotStage, SlotBegins, old_writes, ready_slot, shut_writes, slot_gate_writes, slot_writes, slot_written};
+ghost use Rattle.switch_journal.specs.Slots.{IsSlotStage, SlotBegins, old_writes, paths_of_slot, ready_slot, shut_writes, slot_gate_writes, slot_writes, slot_written};
 ghost use Rattle.switch_journal.specs.Texts.{Journal, RestsAs};
 
 use crate::places::{gate_path_of, record_path_of, slot_gate_of, slot_path_of};
@@ -104,7 +104,7 @@ fn make_old(alloc: Global, first: u64, count: u64) -> Result<Items<Write>, OutOf
 /// Writes a slot. It gives up at the first failure; then the journal has to be opened again.
 pub fn write_slot<D: Disk>(disk: &mut D, ready: &ReadySlot) -> Result<(), Failed>
     ensures cause { Fails D.Disk disk.old disk.new result }
-    ensures goes { Advances D.Disk disk.old disk.new }
+    ensures touches { Touches D.Disk (paths_of_slot ready.now) disk.old disk.new }
     // A stop at any moment leaves the journal from before, with the slot shut, or with the slot written.
     ensures crash { (j : Journal) (slot : Bool) (text : List ℕ)
         → SlotBegins j slot text ready.now (D.told disk.old)
