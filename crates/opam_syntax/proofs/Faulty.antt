@@ -17,7 +17,8 @@ use Rattle.opam_syntax.specs.Samples as samples
 use Rattle.opam_syntax.proofs.Derived.{on, atom_value, doubled_tokens, doubled_are_tokens, doubled_are_entries}
 use Rattle.opam_syntax.proofs.Deeply.{too_many_lists}
 use Rattle.opam_syntax.proofs.OneFile.{entries_stop}
-use Rattle.opam_syntax.proofs.OneTree.{same, stops}
+use Rattle.opam_syntax.specs.Parsing.{stops}
+use Rattle.opam_syntax.proofs.OneTree.{same}
 use Rattle.opam_syntax.proofs.Shallow.{short_is_shallow}
 use Rattle.opam_syntax.proofs.OneTokens.{no_tokens, after_gap, after_single, no_text, no_inside}
 

@@ -25,3 +25,9 @@ pub mod WordsRead
 pub mod TextsRead
 pub mod GapsRead
 pub mod LexerRead
+pub mod Depths
+pub mod ParsedLevels
+pub mod ParsedAll
+pub mod ParsedAny
+pub mod ParsedInside
+pub mod ParsedResults

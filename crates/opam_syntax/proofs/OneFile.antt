@@ -13,7 +13,8 @@ use Rattle.opam_syntax.specs.Files.{Entry, field_entry, section_entry, AreFields
 use Rattle.opam_syntax.specs.Trees.{items_of, told_items, HasEntries}
 use Rattle.opam_syntax.specs.Laws.{OneTreeForBytes, OneDerivation}
 use Rattle.opam_syntax.proofs.OneTokens.{same_tokens}
-use Rattle.opam_syntax.proofs.OneTree.{same, stops, closes, closed}
+use Rattle.opam_syntax.specs.Parsing.{stops}
+use Rattle.opam_syntax.proofs.OneTree.{same, closes, closed}
 
 fields_stop : {tokens : List Placed} {fields : List (List ℕ × Node)} {places : List ℕ} {rest : List Placed} → AreFields tokens fields places rest
     → closes rest ≡ true → stops ValueLevel tokens ≡ true

@@ -10,77 +10,44 @@ use Rattle.opam_syntax.specs.declared.tree.Node.{Node}
 use Rattle.opam_syntax.specs.declared.tree.Value.{Value}
 use Rattle.opam_syntax.specs.declared.tree.Value.TheOpen.{Value-F}
 use Rattle.opam_syntax.specs.Tokens.{Placed, placed}
+use Rattle.opam_syntax.specs.Parsing.{Follower, Braces, Ampersand, Bar, Assignment, Other, follower, stops_at, stops}
 use Rattle.opam_syntax.specs.Grammar.{Level, ValueLevel, OrLevel, AndLevel, UnaryLevel, RelationLevel, BracedLevel, PrimaryLevel, atom_of, node, all_of, any_of, begins_relation, Spells, atom, list, group, bare, braced, pre_relation, alone, relation, no_prefix, negation, definedness, conjunction, disjunction, no_update, update, AreValues, no_value, value, AreConjuncts, last_conjunct, conjunct, AreDisjuncts, last_disjunct, disjunct}
-
--- a token that goes on with what stands before it, at some level
-pub data Follower : Type 0 where
-  Braces : Follower
-  Ampersand : Follower
-  Bar : Follower
-  Sign : Follower
-  Other : Follower
-
-abbrev pub follower : Token → Follower
-follower OpenBraces = Braces
-follower And = Ampersand
-follower Or = Bar
-follower (Update op) = Sign
-follower token = Other
-
-abbrev pub stops_at : Level → Follower → Bool
-stops_at PrimaryLevel f = true
-stops_at ValueLevel Other = true
-stops_at ValueLevel f = false
-stops_at OrLevel Other = true
-stops_at OrLevel Sign = true
-stops_at OrLevel f = false
-stops_at AndLevel Other = true
-stops_at AndLevel Sign = true
-stops_at AndLevel Bar = true
-stops_at AndLevel f = false
-stops_at level Braces = false
-stops_at level f = true
-
--- what follows does not go on with a value of the level
-abbrev pub stops : Level → List Placed → Bool
-stops level [] = true
-stops level (placed token at ∷ tokens) = stops_at level (follower token)
 
 or_stops_at : (f : Follower) → stops_at ValueLevel f ≡ true → stops_at OrLevel f ≡ true
 or_stops_at Braces h = h
 or_stops_at Ampersand h = h
 or_stops_at Bar h = h
-or_stops_at Sign h = refl
+or_stops_at Assignment h = refl
 or_stops_at Other h = refl
 
 and_stops_at : (f : Follower) → stops_at OrLevel f ≡ true → stops_at AndLevel f ≡ true
 and_stops_at Braces h = h
 and_stops_at Ampersand h = h
 and_stops_at Bar h = refl
-and_stops_at Sign h = refl
+and_stops_at Assignment h = refl
 and_stops_at Other h = refl
 
 unary_stops_at : (f : Follower) → stops_at AndLevel f ≡ true → stops_at UnaryLevel f ≡ true
 unary_stops_at Braces h = h
 unary_stops_at Ampersand h = refl
 unary_stops_at Bar h = refl
-unary_stops_at Sign h = refl
+unary_stops_at Assignment h = refl
 unary_stops_at Other h = refl
 
-or_stops : (tokens : List Placed) → stops ValueLevel tokens ≡ true → stops OrLevel tokens ≡ true
+pub or_stops : (tokens : List Placed) → stops ValueLevel tokens ≡ true → stops OrLevel tokens ≡ true
 or_stops [] h = refl
 or_stops (placed token at ∷ tokens) h = or_stops_at (follower token) h
 
-and_stops : (tokens : List Placed) → stops OrLevel tokens ≡ true → stops AndLevel tokens ≡ true
+pub and_stops : (tokens : List Placed) → stops OrLevel tokens ≡ true → stops AndLevel tokens ≡ true
 and_stops [] h = refl
 and_stops (placed token at ∷ tokens) h = and_stops_at (follower token) h
 
-unary_stops : (tokens : List Placed) → stops AndLevel tokens ≡ true → stops UnaryLevel tokens ≡ true
+pub unary_stops : (tokens : List Placed) → stops AndLevel tokens ≡ true → stops UnaryLevel tokens ≡ true
 unary_stops [] h = refl
 unary_stops (placed token at ∷ tokens) h = unary_stops_at (follower token) h
 
 -- whether a value may begin with the token
-abbrev begins_value : Token → Bool
+abbrev pub begins_value : Token → Bool
 begins_value (Flag b) = true
 begins_value (Int n) = true
 begins_value (Text t) = true
@@ -93,11 +60,11 @@ begins_value Not = true
 begins_value Defined = true
 begins_value token = false
 
-abbrev begins : List Placed → Bool
+abbrev pub begins : List Placed → Bool
 begins [] = false
 begins (placed token at ∷ tokens) = begins_value token
 
-none_some : {A B : Type 0} {x : A} → None ≡ Some x → B
+pub none_some : {A B : Type 0} {x : A} → None ≡ Some x → B
 none_some e = absurd cc
 
 atom_begins : (token : Token) {v : Value} → atom_of token ≡ Some v → begins_value token ≡ true
@@ -114,7 +81,7 @@ atom_begins Defined e = refl
 atom_begins token e = none_some e
 
 mutual
-  starts : {level : Level} {tokens : List Placed} {n : Node} {rest : List Placed} → Spells level tokens n rest → begins tokens ≡ true
+  pub starts : {level : Level} {tokens : List Placed} {n : Node} {rest : List Placed} → Spells level tokens n rest → begins tokens ≡ true
   starts (atom {token} e) = atom_begins token e
   starts (list p) = refl
   starts (group p) = refl
@@ -131,11 +98,11 @@ mutual
   starts (no_update p) = starts p
   starts (update p q) = starts p
 
-  conjuncts_start : {tokens : List Placed} {n : Node} {more : List Node} {rest : List Placed} → AreConjuncts tokens n more rest → begins tokens ≡ true
+  pub conjuncts_start : {tokens : List Placed} {n : Node} {more : List Node} {rest : List Placed} → AreConjuncts tokens n more rest → begins tokens ≡ true
   conjuncts_start (last_conjunct p) = starts p
   conjuncts_start (conjunct p q) = starts p
 
-  disjuncts_start : {tokens : List Placed} {n : Node} {more : List Node} {rest : List Placed} → AreDisjuncts tokens n more rest → begins tokens ≡ true
+  pub disjuncts_start : {tokens : List Placed} {n : Node} {more : List Node} {rest : List Placed} → AreDisjuncts tokens n more rest → begins tokens ≡ true
   disjuncts_start (last_disjunct p) = starts p
   disjuncts_start (disjunct p q) = starts p
 
@@ -144,7 +111,7 @@ no_relation : {op : RelOp} {at : Span} {tokens : List Placed} {n : Node} {rest :
     → Spells PrimaryLevel (placed (Relation op) at ∷ tokens) n rest → ⊥
 no_relation (atom e) = none_some e
 
-no_relation_braced : {op : RelOp} {at : Span} {tokens : List Placed} {n : Node} {rest : List Placed}
+pub no_relation_braced : {op : RelOp} {at : Span} {tokens : List Placed} {n : Node} {rest : List Placed}
     → Spells BracedLevel (placed (Relation op) at ∷ tokens) n rest → ⊥
 no_relation_braced (bare p) = no_relation p
 no_relation_braced (braced p q) = no_relation p
@@ -156,7 +123,7 @@ no_not_braced : {at : Span} {tokens : List Placed} {n : Node} {rest : List Place
 no_not_braced (bare p) = no_not p
 no_not_braced (braced p q) = no_not p
 
-no_not_relation : {at : Span} {tokens : List Placed} {n : Node} {rest : List Placed} → Spells RelationLevel (placed Not at ∷ tokens) n rest → ⊥
+pub no_not_relation : {at : Span} {tokens : List Placed} {n : Node} {rest : List Placed} → Spells RelationLevel (placed Not at ∷ tokens) n rest → ⊥
 no_not_relation (alone p h) = no_not_braced p
 no_not_relation (relation p q) = no_not_braced p
 
@@ -167,7 +134,7 @@ no_defined_braced : {at : Span} {tokens : List Placed} {n : Node} {rest : List P
 no_defined_braced (bare p) = no_defined p
 no_defined_braced (braced p q) = no_defined p
 
-no_defined_relation : {at : Span} {tokens : List Placed} {n : Node} {rest : List Placed} → Spells RelationLevel (placed Defined at ∷ tokens) n rest → ⊥
+pub no_defined_relation : {at : Span} {tokens : List Placed} {n : Node} {rest : List Placed} → Spells RelationLevel (placed Defined at ∷ tokens) n rest → ⊥
 no_defined_relation (alone p h) = no_defined_braced p
 no_defined_relation (relation p q) = no_defined_braced p
 
@@ -201,7 +168,7 @@ starter_stops Not h = refl
 starter_stops Defined h = refl
 starter_stops token h = absurd cc
 
-closer_begins_none : (token : Token) → closes_values token ≡ true → begins_value token ≡ true → ⊥
+pub closer_begins_none : (token : Token) → closes_values token ≡ true → begins_value token ≡ true → ⊥
 closer_begins_none CloseList h k = cc
 closer_begins_none CloseGroup h k = cc
 closer_begins_none CloseBraces h k = cc
@@ -215,16 +182,16 @@ started : (tokens : List Placed) → begins tokens ≡ true → stops ValueLevel
 started [] h = refl
 started (placed token at ∷ tokens) h = starter_stops token h
 
-closed_begins_none : (tokens : List Placed) → closes tokens ≡ true → begins tokens ≡ true → ⊥
+pub closed_begins_none : (tokens : List Placed) → closes tokens ≡ true → begins tokens ≡ true → ⊥
 closed_begins_none [] h k = cc
 closed_begins_none (placed token at ∷ tokens) h k = closer_begins_none token h k
 
-values_stop : {tokens : List Placed} {nodes : List Node} {rest : List Placed} → AreValues tokens nodes rest → closes rest ≡ true
+pub values_stop : {tokens : List Placed} {nodes : List Node} {rest : List Placed} → AreValues tokens nodes rest → closes rest ≡ true
     → stops ValueLevel tokens ≡ true
 values_stop {tokens} no_value h = closed tokens h
 values_stop {tokens} (value p q) h = started tokens (starts p)
 
-primary_stops : (tokens : List Placed) → stops PrimaryLevel tokens ≡ true
+pub primary_stops : (tokens : List Placed) → stops PrimaryLevel tokens ≡ true
 primary_stops [] = refl
 primary_stops (placed token at ∷ tokens) = refl
 
@@ -264,16 +231,16 @@ same_any : {a b : Node} {ns ms : List Node} {r s : List Placed} → (a ≡ b) ×
 same_any e = let f = e.0 in let g = e.1 in (cc, e.2)
 
 -- a reading of equal tokens
-spells_too : {level : Level} {ts us : List Placed} {n : Node} {r : List Placed} → ts ≡ us → Spells level us n r → Spells level ts n r
+pub spells_too : {level : Level} {ts us : List Placed} {n : Node} {r : List Placed} → ts ≡ us → Spells level us n r → Spells level ts n r
 spells_too {level} {n = n} {r = r} e p = subst (λ ts. Spells level ts n r) (sym e) p
 
-values_too : {ts us : List Placed} {ns : List Node} {r : List Placed} → ts ≡ us → AreValues us ns r → AreValues ts ns r
+pub values_too : {ts us : List Placed} {ns : List Node} {r : List Placed} → ts ≡ us → AreValues us ns r → AreValues ts ns r
 values_too {ns = ns} {r = r} e p = subst (λ ts. AreValues ts ns r) (sym e) p
 
-conjuncts_too : {ts us : List Placed} {n : Node} {ns : List Node} {r : List Placed} → ts ≡ us → AreConjuncts us n ns r → AreConjuncts ts n ns r
+pub conjuncts_too : {ts us : List Placed} {n : Node} {ns : List Node} {r : List Placed} → ts ≡ us → AreConjuncts us n ns r → AreConjuncts ts n ns r
 conjuncts_too {n = n} {ns = ns} {r = r} e p = subst (λ ts. AreConjuncts ts n ns r) (sym e) p
 
-disjuncts_too : {ts us : List Placed} {n : Node} {ns : List Node} {r : List Placed} → ts ≡ us → AreDisjuncts us n ns r → AreDisjuncts ts n ns r
+pub disjuncts_too : {ts us : List Placed} {n : Node} {ns : List Node} {r : List Placed} → ts ≡ us → AreDisjuncts us n ns r → AreDisjuncts ts n ns r
 disjuncts_too {n = n} {ns = ns} {r = r} e p = subst (λ ts. AreDisjuncts ts n ns r) (sym e) p
 
 braces_clash : {at : Span} {rest inner : List Placed} {A : Type 0} → stops BracedLevel rest ≡ true → rest ≡ placed OpenBraces at ∷ inner → A
@@ -293,7 +260,7 @@ update_clash : {op : EnvOp} {at : Span} {rest inner : List Placed} {A : Type 0} 
     → rest ≡ placed (Update op) at ∷ inner → A
 update_clash {A} h e = let f = ap (stops ValueLevel) (sym e) ∙ h in absurd cc
 
-tail_same : {x y : Placed} {r s : List Placed} → (x ∷ r) ≡ (y ∷ s) → r ≡ s
+pub tail_same : {x y : Placed} {r s : List Placed} → (x ∷ r) ≡ (y ∷ s) → r ≡ s
 tail_same e = cc
 
 relation_of : {x y : RelOp} {a b : Span} {r s : List Placed} → (placed (Relation x) a ∷ r) ≡ (placed (Relation y) b ∷ s) → x ≡ y
@@ -366,7 +333,7 @@ mutual
       let f = same t (or_stops r h) (spells_too (tail_same e.1) u) (or_stops s k) in
       (same_env (update_of e.1) e.0 f.0, f.1)
 
-  same_values : {tokens : List Placed} {ns : List Node} {r : List Placed} → AreValues tokens ns r → closes r ≡ true
+  pub same_values : {tokens : List Placed} {ns : List Node} {r : List Placed} → AreValues tokens ns r → closes r ≡ true
       → {ms : List Node} {s : List Placed} → AreValues tokens ms s → closes s ≡ true → (ns ≡ ms) × (r ≡ s)
   same_values no_value h no_value k = (refl, refl)
   same_values {r = r} no_value h (value q t) k = absurd (closed_begins_none r h (starts q))

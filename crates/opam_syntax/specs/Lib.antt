@@ -16,3 +16,4 @@ pub mod Laws
 pub mod Printed
 pub mod Read
 pub mod Lexed
+pub mod Parsing

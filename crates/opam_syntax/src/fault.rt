@@ -1,4 +1,8 @@
 // Why bytes are no file.
+ghost use Rattle.std.specs.Prelude.{◌≡◌};
+ghost use Rattle.opam_syntax.specs.declared.fault.ParseFault.TheVariants.{Memory};
+
+use std::alloc::AllocError;
 
 /// What is wrong with the bytes, and at which of them, counted from 0.
 #[derive(Clone, Copy, Debug, PartialEq, Eq)]
@@ -13,4 +17,25 @@ pub enum SyntaxFault {
     Doubled { at: u32 },
     /// Memory was refused.
     Memory,
+}
+
+/// Why tokens are no entries of a file. The number says how many tokens stand after the one at which it is seen.
+#[derive(Clone, Copy, Debug, PartialEq, Eq)]
+pub(crate) enum ParseFault {
+    /// They end before an entry does.
+    Ended,
+    /// A token goes on with nothing that stands before it.
+    Stray(usize),
+    /// A bracket or a prefix operator is nested in 64 others.
+    Deep(usize),
+    /// Memory was refused.
+    Memory,
+}
+
+impl From<AllocError> for ParseFault {
+    ghost from_gives = { λ _ e. e ≡ Memory };
+
+    fn from(_: AllocError) -> Self {
+        ParseFault::Memory
+    }
 }

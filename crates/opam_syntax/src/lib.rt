@@ -10,11 +10,13 @@ mod lexer;
 mod limits;
 mod printing;
 mod printing_laws;
+mod queue;
 mod rows;
 mod signs;
 mod texts;
 mod token;
 mod tree;
+mod values;
 mod words;
 
 pub use fault::SyntaxFault;
