@@ -31,3 +31,5 @@ pub mod ParsedAll
 pub mod ParsedAny
 pub mod ParsedInside
 pub mod ParsedResults
+pub mod ParsedFields
+pub mod ParsedEntries

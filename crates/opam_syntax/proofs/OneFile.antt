@@ -16,7 +16,7 @@ use Rattle.opam_syntax.proofs.OneTokens.{same_tokens}
 use Rattle.opam_syntax.specs.Parsing.{stops}
 use Rattle.opam_syntax.proofs.OneTree.{same, closes, closed}
 
-fields_stop : {tokens : List Placed} {fields : List (List ℕ × Node)} {places : List ℕ} {rest : List Placed} → AreFields tokens fields places rest
+pub fields_stop : {tokens : List Placed} {fields : List (List ℕ × Node)} {places : List ℕ} {rest : List Placed} → AreFields tokens fields places rest
     → closes rest ≡ true → stops ValueLevel tokens ≡ true
 fields_stop {tokens} no_field h = closed tokens h
 fields_stop (field p q) h = refl
@@ -27,20 +27,20 @@ entries_stop (field_next p q) = refl
 entries_stop (section_next p q) = refl
 entries_stop (labelled_next p q) = refl
 
-fields_too : {ts us : List Placed} {fs : List (List ℕ × Node)} {ps : List ℕ} {r : List Placed} → ts ≡ us → AreFields us fs ps r → AreFields ts fs ps r
+pub fields_too : {ts us : List Placed} {fs : List (List ℕ × Node)} {ps : List ℕ} {r : List Placed} → ts ≡ us → AreFields us fs ps r → AreFields ts fs ps r
 fields_too {fs = fs} {ps = ps} {r = r} e p = subst (λ ts. AreFields ts fs ps r) (sym e) p
 
-entries_too : {ts us : List Placed} {es : List Entry} → ts ≡ us → AreEntries us es → AreEntries ts es
+pub entries_too : {ts us : List Placed} {es : List Entry} → ts ≡ us → AreEntries us es → AreEntries ts es
 entries_too {es = es} e p = subst (λ ts. AreEntries ts es) (sym e) p
 
-abbrev SameFields : List (List ℕ × Node) → List (List ℕ × Node) → List ℕ → List ℕ → List Placed → List Placed → Type 0
+abbrev pub SameFields : List (List ℕ × Node) → List (List ℕ × Node) → List ℕ → List ℕ → List Placed → List Placed → Type 0
 SameFields fs gs ps qs r s = (fs ≡ gs) × (ps ≡ qs) × (r ≡ s)
 
 same_fields_more : (name : List ℕ) (from : Span) {a b : Node} {fs gs : List (List ℕ × Node)} {ps qs : List ℕ} {r s : List Placed} → a ≡ b → SameFields fs gs ps qs r s
     → SameFields ((name, a) ∷ fs) ((name, b) ∷ gs) (from.start ∷ ps) (from.start ∷ qs) r s
 same_fields_more name from e f = let g = f.0 in let h = f.1 in (cc, cc, f.2)
 
-same_fields : {ts : List Placed} {fs : List (List ℕ × Node)} {ps : List ℕ} {r : List Placed} → AreFields ts fs ps r → closes r ≡ true
+pub same_fields : {ts : List Placed} {fs : List (List ℕ × Node)} {ps : List ℕ} {r : List Placed} → AreFields ts fs ps r → closes r ≡ true
     → {gs : List (List ℕ × Node)} {qs : List ℕ} {s : List Placed} → AreFields ts gs qs s → closes s ≡ true → SameFields fs gs ps qs r s
 same_fields no_field h no_field k = (refl, refl, refl)
 same_fields no_field h (field q v) k = absurd cc
@@ -53,12 +53,12 @@ same_field_next : (name : List ℕ) (from : Span) {a b : Node} {es ds : List Ent
     → (field_entry name from a ∷ es) ≡ (field_entry name from b ∷ ds)
 same_field_next name from e f = cc
 
-same_section_next : (name : List ℕ) (label : Option (List ℕ)) (from : Span) {to by : Span} {fs gs : List (List ℕ × Node)} {ps qs : List ℕ} {r s : List Placed} {es ds : List Entry}
+pub same_section_next : (name : List ℕ) (label : Option (List ℕ)) (from : Span) {to by : Span} {fs gs : List (List ℕ × Node)} {ps qs : List ℕ} {r s : List Placed} {es ds : List Entry}
     → SameFields fs gs ps qs (placed CloseBraces to ∷ r) (placed CloseBraces by ∷ s) → es ≡ ds
     → (section_entry name label from fs ps to ∷ es) ≡ (section_entry name label from gs qs by ∷ ds)
 same_section_next name label from e f = let g = e.0 in let h = e.1 in let i = e.2 in cc
 
-after_section : {fs gs : List (List ℕ × Node)} {ps qs : List ℕ} {x y : Placed} {r s : List Placed} → SameFields fs gs ps qs (x ∷ r) (y ∷ s) → r ≡ s
+pub after_section : {fs gs : List (List ℕ × Node)} {ps qs : List ℕ} {x y : Placed} {r s : List Placed} → SameFields fs gs ps qs (x ∷ r) (y ∷ s) → r ≡ s
 after_section e = let f = e.2 in cc
 
 pub same_entries : {ts : List Placed} {es : List Entry} → AreEntries ts es → {ds : List Entry} → AreEntries ts ds → es ≡ ds

@@ -17,3 +17,4 @@ pub mod Printed
 pub mod Read
 pub mod Lexed
 pub mod Parsing
+pub mod ParsingEntries

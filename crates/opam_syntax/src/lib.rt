@@ -8,6 +8,7 @@ mod gaps;
 mod laws;
 mod lexer;
 mod limits;
+mod parsing;
 mod printing;
 mod printing_laws;
 mod queue;

@@ -1,11 +1,13 @@
 // Tokens that are left to be parsed, and what comes next of them.
 ghost use Rattle.std.specs.Prelude.{◌≡◌, length};
-ghost use Rattle.std.specs.Option.{option_copied};
+ghost use Rattle.std.specs.Option.{option_copied, is_some};
 ghost use Rattle.opam_syntax.specs.Read.{placed_tokens};
 ghost use Rattle.opam_syntax.specs.Parsing.{closing, first_token, next_prefix, next_relation, next_sign, next_update, sign_of, Takes, TakesPrefix, TakesRelation, TakesSign, TakesUpdate};
+ghost use Rattle.opam_syntax.specs.ParsingEntries.{next_text, text_of, TakesText};
 
 use crate::token::{PlacedToken, Token};
 use crate::{EnvOp, RelOp, Span};
+use sqlite_items::Items;
 use std::collections::VecDeque;
 use std::marker::Model;
 
@@ -160,6 +162,25 @@ impl TokenQueue {
         }
     }
 
+    fn next_is_text(&self) -> bool
+        ensures { result ≡ is_some (next_text self.now) }
+    {
+        matches!(self.first(), Some(Token::Text(_)))
+    }
+
+    /// Takes a text, if one comes next.
+    pub(crate) fn take_text(&mut self) -> Option<Items<u8>>
+        ensures { TakesText self.old result self.new }
+    {
+        if !self.next_is_text() {
+            return None;
+        }
+        match self.take() {
+            None => None,
+            Some(PlacedToken { token, .. }) => text_of(token),
+        }
+    }
+
     fn next_prefix(&self) -> Option<Prefix>
         ensures { result ≡ next_prefix self.now }
     {
@@ -181,6 +202,15 @@ impl TokenQueue {
                 Some(next) => Some((prefix, next.span)),
             },
         }
+    }
+}
+
+fn text_of(token: Token) -> Option<Items<u8>>
+    ensures { result ≡ text_of token }
+{
+    match token {
+        Token::Text(bytes) => Some(bytes),
+        _ => None,
     }
 }
 

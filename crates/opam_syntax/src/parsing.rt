@@ -1,0 +1,198 @@
+// Fields and sections are parsed one after another (opam manual, file format: general syntax).
+ghost use Rattle.std.specs.Prelude.{◌≡◌, ◌≢◌, ◌≤◌, ◌<◌, ◌∷◌, [], length, Some, OnOk, IfOk, IfErr};
+ghost use Rattle.opam_syntax.specs.declared.token.Token.TheVariants.{Plain};
+ghost use Rattle.opam_syntax.specs.Tokens.{placed};
+ghost use Rattle.opam_syntax.specs.Files.{AreEntries, field_entry, section_entry};
+ghost use Rattle.opam_syntax.specs.Nesting.{AreShallow};
+ghost use Rattle.opam_syntax.specs.Read.{entry_of, placed_tokens, read_entries};
+ghost use Rattle.opam_syntax.specs.Parsing.{next_sign};
+ghost use Rattle.opam_syntax.specs.ParsingEntries.{HasNoShallow, MakesEntry, ReadsEntry, ReadsField, ReadsFields, ReadsName};
+
+use crate::entry::{ReadContents, ReadEntry};
+use crate::fault::ParseFault;
+use crate::queue::{Sign, TokenQueue};
+use crate::token::{PlacedToken, Token};
+use crate::values::value;
+use crate::{Key, Label, Node, Span, Word};
+use sqlite_items::Items;
+use std::alloc::Global;
+
+/// How many brackets and prefix operators may be open.
+const NESTING_LIMIT: u32 = 64;
+
+/// A plain identifier where a field or a section begins.
+#[derive(Drop)]
+struct ReadName {
+    word: Word,
+    span: Span,
+}
+
+/// A field, and where its name stands.
+#[derive(Drop)]
+struct ReadField {
+    name: Word,
+    span: Span,
+    value: Node,
+}
+
+/// The fields of a section, where their names begin, and where the brace stands that closes it.
+#[derive(Drop)]
+struct ReadFields {
+    fields: Items<(Word, Node)>,
+    places: Items<u32>,
+    to: Span,
+}
+
+fn name(tokens: &mut TokenQueue) -> Result<ReadName, ParseFault>
+    ensures { ReadsName tokens.old result tokens.new }
+{
+    match tokens.take() {
+        None => Err(ParseFault::Ended),
+        Some(PlacedToken { token, span }) => match token {
+            Token::Plain(word) => Ok(ReadName { word, span }),
+            _ => Err(ParseFault::Stray(tokens.len())),
+        },
+    }
+}
+
+// At the token that comes next.
+fn misplaced(tokens: &TokenQueue) -> ParseFault {
+    match tokens.len() {
+        0 => ParseFault::Ended,
+        left => ParseFault::Stray(left - 1),
+    }
+}
+
+/// field = plain ":" value
+fn field(alloc: Global, tokens: &mut TokenQueue, allowed: u32) -> Result<ReadField, ParseFault>
+    ensures read { ReadsField allowed tokens.old result tokens.new }
+    ensures shorter { OnOk result (length tokens.new < length tokens.old) }
+{
+    let ReadName { word, span } = name(tokens)?;
+    match tokens.take_sign(Sign::Colon) {
+        None => Err(misplaced(tokens)),
+        Some(_) => {
+            let value = value(alloc, tokens, allowed)?;
+            Ok(ReadField {
+                name: word,
+                span,
+                value,
+            })
+        }
+    }
+}
+
+/// { field }, up to the brace that closes the section
+fn fields(alloc: Global, tokens: &mut TokenQueue) -> Result<ReadFields, ParseFault>
+    ensures read { ReadsFields tokens.old result tokens.new }
+    ensures shorter { OnOk result (length tokens.new < length tokens.old) }
+{
+    let mut fields = Items::new(alloc);
+    let mut places = Items::new(alloc);
+    loop {
+        match tokens.take_sign(Sign::CloseBraces) {
+            Some(to) => return Ok(ReadFields { fields, places, to }),
+            None => {
+                let ReadField { name, span, value } = field(alloc, tokens, NESTING_LIMIT - 1)?;
+                fields.push((name, value))?;
+                places.push(span.start)?;
+            }
+        }
+    }
+}
+
+/// field | section
+fn entry(alloc: Global, tokens: &mut TokenQueue) -> Result<ReadEntry, ParseFault>
+    ensures read { ReadsEntry tokens.old result tokens.new }
+    ensures shorter { OnOk result (length tokens.new < length tokens.old) }
+{
+    let name = name(tokens)?;
+    match tokens.take_sign(Sign::Colon) {
+        Some(_) => {
+            let value = value(alloc, tokens, NESTING_LIMIT)?;
+            Ok(make_field(alloc, name, value))
+        }
+        None => section(alloc, tokens, name),
+    }
+}
+
+/// section = plain [ text ] "{" { field } "}", after its name
+fn section(alloc: Global, tokens: &mut TokenQueue, name: ReadName) -> Result<ReadEntry, ParseFault>
+    requires { next_sign tokens.old ≢ Some Sign.Colon }
+    ensures read { ReadsEntry (placed (Plain name.word) name.span ∷ tokens.old) result tokens.new }
+    ensures shorter { OnOk result (length tokens.new < length tokens.old) }
+{
+    let text = tokens.take_text();
+    match tokens.take_sign(Sign::OpenBraces) {
+        None => Err(misplaced(tokens)),
+        Some(_) => {
+            let inside = fields(alloc, tokens)?;
+            make_section(alloc, name, text, inside)
+        }
+    }
+}
+
+fn make_field(alloc: Global, name: ReadName, value: Node) -> ReadEntry
+    ensures { entry_of result ≡ field_entry name.word name.span value }
+{
+    let span = Span {
+        start: name.span.start,
+        end: value.span.end,
+    };
+    ReadEntry {
+        key: Key {
+            name: name.word,
+            section: false,
+            label: None,
+        },
+        contents: ReadContents::Field(value),
+        span,
+        places: Items::new(alloc),
+    }
+}
+
+fn make_section(
+    alloc: Global,
+    name: ReadName,
+    text: Option<Items<u8>>,
+    inside: ReadFields,
+) -> Result<ReadEntry, ParseFault>
+    ensures { MakesEntry (section_entry name.word text name.span inside.fields inside.places inside.to) result }
+{
+    let label = match text {
+        None => None,
+        Some(text) => Some(Label::from_vec(Vec::from_slice(alloc, text.as_slice())?)),
+    };
+    let ReadFields { fields, places, to } = inside;
+    let span = Span {
+        start: name.span.start,
+        end: to.end,
+    };
+    Ok(ReadEntry {
+        key: Key {
+            name: name.word,
+            section: true,
+            label,
+        },
+        contents: ReadContents::Section(fields),
+        span,
+        places,
+    })
+}
+
+/// The entries that tokens spell. A fault other than want of memory comes only where they spell none that are shallow.
+pub(crate) fn parse(alloc: Global, tokens: Vec<PlacedToken>) -> Result<Vec<ReadEntry>, ParseFault>
+    ensures spelled { IfOk result (λ entries.
+        AreEntries (placed_tokens tokens.items) (read_entries entries.items)) }
+    ensures shallow { IfOk result (λ entries. AreShallow (read_entries entries.items)) }
+    ensures refused { IfErr result (λ fault. fault ≢ ParseFault.Memory
+        → HasNoShallow (placed_tokens tokens.items)) }
+{
+    let mut left = TokenQueue::from_vec(tokens);
+    let mut entries = Vec::new(alloc);
+    while left.len() > 0 {
+        let next = entry(alloc, &mut left)?;
+        entries.push(next)?;
+    }
+    Ok(entries)
+}
