@@ -1,5 +1,5 @@
 -- How tokens are read.
-use Rattle.std.proofs.Common.{◌≡◌, ℕ, ◌+◌, ◌-◌, ◌<◌, ◌≤◌, Bool, true, false, ◌&&◌, ◌==◌, List, [], ◌∷◌, ◌++◌, length, take, drop, get_or, map, refl, sym, ap, subst, ◌∙◌, append_assoc, arith, length-drop}
+use Rattle.std.proofs.Common.{◌≡◌, ℕ, ◌+◌, ◌-◌, ◌<◌, ◌≤◌, Bool, true, false, ◌&&◌, ◌==◌, List, [], ◌∷◌, ◌++◌, length, take, drop, get_or, refl, sym, ap, subst, ◌∙◌, append_assoc, arith, length-drop}
 use Rattle.std.specs.Prelude.{IfOk}
 use Rattle.std.specs.declared.option.Option.{Option}
 use Rattle.std.specs.declared.result.Result.{Result}
@@ -19,11 +19,11 @@ use Rattle.opam_syntax.specs.Lexed.{IsFirst, IsWithin, IsTextAt, StandsFirst, wh
 use Rattle.opam_syntax.specs.Read.{placed_of, placed_tokens}
 use Rattle.opam_syntax.specs.Signs.{begins_with}
 use Rattle.opam_syntax.specs.Texts.{IsInside}
-use Rattle.opam_syntax.specs.Tokens.{First, Gap, Quote, first, after_line, Placed, placed, span_between, AreTokens, ends, gap, single, text}
+use Rattle.opam_syntax.specs.Tokens.{Gap, Quote, first, after_line, Placed, placed, span_between, AreTokens, ends, gap, single, text}
 use Rattle.opam_syntax.specs.Words.{word_of}
 use Rattle.opam_syntax.proofs.OneTokens.{no_tokens, no_text, after_gap, after_single, after_text}
 use Rattle.opam_syntax.proofs.PrintWords.{skip, enter}
-use Rattle.opam_syntax.proofs.WordsRead.{append_nil, drop_step, word_is_ascii}
+use Rattle.opam_syntax.proofs.WordsRead.{drop_step, word_is_ascii}
 
 -- bytes are the first and the others
 bytes_are : (bytes : List ℕ) (b : ℕ) → 0 < length bytes → get_or bytes 0 0 ≡ b → bytes ≡ b ∷ drop 1 bytes

@@ -3,7 +3,9 @@ use Rattle.std.proofs.Common.{◌≡◌, ◌≢◌, ℕ, ◌+◌, ◌≤◌, tru
 use Rattle.std.specs.Result.{IsErrAnd}
 use Rattle.opam_syntax.specs.declared.fault.ParseFault.{ParseFault}
 use Rattle.opam_syntax.specs.declared.fault.ParseFault.TheVariants.{Memory}
-use Rattle.opam_syntax.specs.declared.parsing.ReadFields.{ReadFields}
+use Rattle.opam_syntax.specs.declared.parsing.FieldsInside.{FieldsInside}
+use Rattle.opam_syntax.specs.declared.entry.ReadField.{ReadField}
+use Rattle.opam_syntax.specs.Read.{field_of, read_fields, read_places}
 use Rattle.std.specs.declared.option.Option.TheVariants.{Some}
 use Rattle.opam_syntax.specs.declared.queue.Sign.TheVariants as sign
 use Rattle.opam_syntax.specs.declared.token.Token.TheVariants.{Plain, Colon, CloseBraces}
@@ -54,40 +56,57 @@ next_only {name = name} {from = from} p h (field {fields = others} {places = pla
     let head : Node → List Field = λ n. (name, n) ∷ others in
     (others, places, ap head (sym e.0), refl, fields_too e.1 t)
 
-field_only : (now : List Placed) (name : List ℕ) (from : Span) (v : Node) (next : List Placed) → IsField 63 now name from v next
+field_only : (now : List Placed) (name : List ℕ) (place : ℕ) (v : Node) (next : List Placed) → IsField 63 now name place v next
     → (all : List Field) (begins : List ℕ) (to : Span) (rest : List Placed) → AreFields now all begins (placed CloseBraces to ∷ rest)
-    → (others : List Field) × (places : List ℕ) × (all ≡ (name, v) ∷ others) × (begins ≡ from.start ∷ places)
+    → (others : List Field) × (places : List ℕ) × (all ≡ (name, v) ∷ others) × (begins ≡ place ∷ places)
     × AreFields next others places (placed CloseBraces to ∷ rest)
-field_only now name from v next f all begins to rest p =
-    next_only f.parsed.spelled f.parsed.stopped (subst (λ ts. AreFields ts all begins (placed CloseBraces to ∷ rest)) f.begins p)
+field_only now name place v next f all begins to rest p =
+    let a = next_only f.parsed.spelled f.parsed.stopped (subst (λ ts. AreFields ts all begins (placed CloseBraces to ∷ rest)) f.begins p) in
+    (a.0, a.1, a.2, a.3 ∙ ap (λ n. n ∷ a.1) f.starts, a.4)
 
-field_more : (now : List Placed) (name : List ℕ) (from : Span) (v : Node) (next : List Placed) → IsField 63 now name from v next
+field_more : (now : List Placed) (name : List ℕ) (place : ℕ) (v : Node) (next : List Placed) → IsField 63 now name place v next
     → (more : List Field) (others : List ℕ) (rest : List Placed) → AreFields next more others rest
-    → AreFields now ((name, v) ∷ more) (from.start ∷ others) rest
-field_more now name from v next f more others rest p =
-    subst (λ ts. AreFields ts ((name, v) ∷ more) (from.start ∷ others) rest) (sym f.begins) (field f.parsed.spelled p)
+    → AreFields now ((name, v) ∷ more) (place ∷ others) rest
+field_more now name place v next f more others rest p =
+    subst (λ n. AreFields now ((name, v) ∷ more) (n ∷ others) rest) f.starts
+    (subst (λ ts. AreFields ts ((name, v) ∷ more) (f.from.start ∷ others) rest) (sym f.begins) (field f.parsed.spelled p))
 
-pub fields_step : (tokens : List Placed) (fields : List (List ℕ × Node)) (places : List ℕ) (now : List Placed) (name : List ℕ) (from : Span) (v : Node)
-    (next : List Placed) (listed : List (List ℕ × Node)) (begun : List ℕ) → FieldsSoFar tokens fields places now → IsField 63 now name from v next
-    → listed ≡ fields ++ (name, v) ∷ [] → begun ≡ places ++ from.start ∷ [] → FieldsSoFar tokens listed begun next
-fields_step tokens fields places now name from v next listed begun s f d e = record {
+fields_listed : (fields : List ReadField) (f : ReadField) → read_fields (fields ++ f ∷ []) ≡ read_fields fields ++ field_of f ∷ []
+fields_listed [] f = refl
+fields_listed (d ∷ fields) f = ap (λ fs. field_of d ∷ fs) (fields_listed fields f)
+
+places_listed : (fields : List ReadField) (f : ReadField) → read_places (fields ++ f ∷ []) ≡ read_places fields ++ f.place ∷ []
+places_listed [] f = refl
+places_listed (d ∷ fields) f = ap (λ ps. d.place ∷ ps) (places_listed fields f)
+
+one_more : (tokens : List Placed) (fields : List (List ℕ × Node)) (places : List ℕ) (now : List Placed) (name : List ℕ) (place : ℕ) (v : Node)
+    (next : List Placed) (listed : List (List ℕ × Node)) (begun : List ℕ) → FieldsSoFar tokens fields places now → IsField 63 now name place v next
+    → listed ≡ fields ++ (name, v) ∷ [] → begun ≡ places ++ place ∷ [] → FieldsSoFar tokens listed begun next
+one_more tokens fields places now name place v next listed begun s f d e = record {
   goes_on = λ more others rest p.
-      let a = s.goes_on ((name, v) ∷ more) (from.start ∷ others) rest (field_more now name from v next f more others rest p) in
-      let b = subst (λ fs. AreFields tokens fs (places ++ from.start ∷ others) rest)
+      let a = s.goes_on ((name, v) ∷ more) (place ∷ others) rest (field_more now name place v next f more others rest p) in
+      let b = subst (λ fs. AreFields tokens fs (places ++ place ∷ others) rest)
       (sym (append_assoc fields ((name, v) ∷ []) more) ∙ ap (λ fs. fs ++ more) (sym d)) a in
       subst (λ ps. AreFields tokens (listed ++ more) ps rest)
-      (sym (append_assoc places (from.start ∷ []) others) ∙ ap (λ ps. ps ++ others) (sym e)) b;
+      (sym (append_assoc places (place ∷ []) others) ∙ ap (λ ps. ps ++ others) (sym e)) b;
   only = λ all begins to rest p.
       let a = s.only all begins to rest p in
-      let b = field_only now name from v next f a.0 a.1 to rest a.4 in (
+      let b = field_only now name place v next f a.0 a.1 to rest a.4 in (
         b.0,
         b.1,
         a.2 ∙ ap (λ fs. fields ++ fs) b.2 ∙ sym (append_assoc fields ((name, v) ∷ []) b.0) ∙ ap (λ fs. fs ++ b.0) (sym d),
-        a.3 ∙ ap (λ ps. places ++ ps) b.3 ∙ sym (append_assoc places (from.start ∷ []) b.1) ∙ ap (λ ps. ps ++ b.1) (sym e),
+        a.3 ∙ ap (λ ps. places ++ ps) b.3 ∙ sym (append_assoc places (place ∷ []) b.1) ∙ ap (λ ps. ps ++ b.1) (sym e),
         b.4,
       );
   shallow = subst (λ fs. 1 + most (depths fs) ≤ 64) (sym d) (deep_more fields (name, v) s.shallow f.parsed.shallow);
 }
+
+pub fields_step : (tokens : List Placed) (fields : List ReadField) (now : List Placed) (f : ReadField) (next : List Placed) (listed : List ReadField)
+    → FieldsSoFar tokens (read_fields fields) (read_places fields) now → IsField 63 now f.name f.place f.value next → listed ≡ fields ++ f ∷ []
+    → FieldsSoFar tokens (read_fields listed) (read_places listed) next
+fields_step tokens fields now f next listed s p e =
+    one_more tokens (read_fields fields) (read_places fields) now f.name f.place f.value next (read_fields listed) (read_places listed) s p
+    (ap read_fields e ∙ fields_listed fields f) (ap read_places e ∙ places_listed fields f)
 
 none_more : {A : Type 0} (xs : List A) → xs ++ [] ≡ xs
 none_more [] = refl
@@ -107,9 +126,11 @@ next_none : {now : List Placed} → next_sign now ≢ Some sign.CloseBraces → 
 next_none h k to rest e no_field s = h (ap next_sign (sym e))
 next_none h k {end = end} to rest e (field {name = name} {from = from} {at = at} {tokens = more} {between = between} {value = v} {fields = fields} {places = places} p q) s =
     let closed = subst (λ ts. AreFields between fields places ts) (sym e) q in
-    k name from v between (record {
+    k name from.start v between (record {
+      from = from;
       at = at;
       more = more;
+      starts = refl;
       begins = refl;
       parsed = record { spelled = p; stopped = fields_stop closed refl; shallow = omega arith };
     })
@@ -127,7 +148,7 @@ fields_refused tokens fields places now s h k all begins to rest p =
     next_none h k to rest refl a.4 (deep_later fields a.0 all a.2 p.shallow)
 
 -- a fault that is passed on
-pub no_fields_read : (tokens rest : List Placed) (r : Result ReadFields ParseFault) (fault : ParseFault) → IsErrAnd r (λ f. f ≡ fault)
+pub no_fields_read : (tokens rest : List Placed) (r : Result FieldsInside ParseFault) (fault : ParseFault) → IsErrAnd r (λ f. f ≡ fault)
     → (fault ≢ Memory → AreNoFields tokens) → ReadsFields tokens r rest
 no_fields_read tokens rest (Ok inside) fault e h = absurd e
 no_fields_read tokens rest (Err f) fault e h = λ k. h (λ g. k (e ∙ g))
@@ -135,6 +156,6 @@ no_fields_read tokens rest (Err f) fault e h = λ k. h (λ g. k (e ∙ g))
 pub no_field_at : {allowed : ℕ} {tokens others : List Placed} → tokens ≡ others → IsNoField allowed tokens → IsNoField allowed others
 no_field_at {allowed} e h = subst (λ ts. IsNoField allowed ts) e h
 
-pub field_at : {allowed : ℕ} {tokens others rest : List Placed} {name : List ℕ} {from : Span} {v : Node} → tokens ≡ others
-    → IsField allowed tokens name from v rest → IsField allowed others name from v rest
-field_at {allowed} {rest = rest} {name = name} {from = from} {v = v} e h = subst (λ ts. IsField allowed ts name from v rest) e h
+pub field_at : {allowed : ℕ} {tokens others rest : List Placed} {name : List ℕ} {place : ℕ} {v : Node} → tokens ≡ others
+    → IsField allowed tokens name place v rest → IsField allowed others name place v rest
+field_at {allowed} {rest = rest} {name = name} {place = place} {v = v} e h = subst (λ ts. IsField allowed ts name place v rest) e h

@@ -1,6 +1,6 @@
 -- How words are read.
-use Rattle.std.proofs.Common.{◌≡◌, ℕ, zero, suc, ◌+◌, ◌*◌, ◌-◌, ◌/◌, ◌^◌, ◌<◌, ◌≤◌, Bool, true, false, not, ◌&&◌, ◌||◌, ◌==◌, cond, List, [], ◌∷◌, ◌++◌, length, take, drop, get_or, if◌then◌else◌, refl, sym, ap, subst, ◌∙◌, arith, add-one, drop-cons, append_assoc, lit<}
-use Rattle.std.specs.Prelude.{nat_lt, nat_le}
+use Rattle.std.proofs.Common.{◌≡◌, ℕ, zero, suc, ◌+◌, ◌*◌, ◌-◌, ◌/◌, ◌^◌, ◌<◌, ◌≤◌, Bool, true, false, not, ◌&&◌, ◌||◌, ◌==◌, cond, List, [], ◌∷◌, ◌++◌, length, take, drop, get_or, if◌then◌else◌, refl, sym, ap, ◌∙◌, arith, add-one, drop-cons, append_assoc, lit<}
+use Rattle.std.specs.Prelude.{nat_le}
 use Rattle.std.specs.List.{list_all, list_any, slice_split}
 use Rattle.std.specs.List as list
 use Rattle.std.specs.Str.{IsAscii}
@@ -8,11 +8,11 @@ use Rattle.std.proofs.lemmas.Bool.Decides.{nat_tests}
 use Rattle.std.proofs.lemmas.List.{take_more}
 use Rattle.std.proofs.Math.ListN.{length-take, drop_of_length-le}
 use Rattle.std.specs.declared.option.Option.TheVariants.{None, Some}
-use Rattle.opam_names.specs.Names.{is_letter, is_digit}
+use Rattle.opam_names.specs.Names.{is_digit}
 use Rattle.opam_names.specs.Orders.{number, number_after}
 use Rattle.opam_names.specs.Paths.{onto_first}
 use Rattle.opam_syntax.specs.Lexed.{is_colon, is_plus, small_number}
-use Rattle.opam_syntax.specs.Words.{is_word_byte, begins_word, joins, word_of, are_digits, before, after, scope_parts}
+use Rattle.opam_syntax.specs.Words.{is_word_byte, joins, word_of, are_digits, before, after, scope_parts}
 use Rattle.opam_syntax.proofs.PrintWords.{skip, enter, other_byte}
 
 pub drop_step : (xs : List ℕ) (i : ℕ) → i < length xs → drop i xs ≡ get_or xs i 0 ∷ drop (i + 1) xs

@@ -3,11 +3,11 @@ use Rattle.std.specs.Prelude.{◌≡◌, ◌≢◌, ℕ, ◌+◌, ◌≤◌, Lis
 use Rattle.std.specs.declared.option.Option.{Option}
 use Rattle.std.specs.declared.option.Option.TheVariants.{None, Some}
 use Rattle.opam_syntax.specs.declared.entry.ReadEntry.{ReadEntry}
+use Rattle.opam_syntax.specs.declared.entry.ReadField.{ReadField}
 use Rattle.opam_syntax.specs.declared.fault.ParseFault.{ParseFault}
 use Rattle.opam_syntax.specs.declared.fault.ParseFault.TheVariants.{Memory}
 use Rattle.opam_syntax.specs.declared.parsing.ReadName.{ReadName}
-use Rattle.opam_syntax.specs.declared.parsing.ReadField.{ReadField}
-use Rattle.opam_syntax.specs.declared.parsing.ReadFields.{ReadFields}
+use Rattle.opam_syntax.specs.declared.parsing.FieldsInside.{FieldsInside}
 use Rattle.opam_syntax.specs.declared.token.Token.{Token}
 use Rattle.opam_syntax.specs.declared.token.Token.TheVariants.{Text, Plain, Colon, CloseBraces}
 use Rattle.opam_syntax.specs.declared.tree.Node.{Node}
@@ -16,7 +16,7 @@ use Rattle.opam_syntax.specs.Tokens.{Placed, placed}
 use Rattle.opam_syntax.specs.Grammar.{ValueLevel}
 use Rattle.opam_syntax.specs.Files.{Entry, AreFields, AreEntries}
 use Rattle.opam_syntax.specs.Nesting.{depth, most, contents_depth, AreShallow}
-use Rattle.opam_syntax.specs.Read.{entry_of}
+use Rattle.opam_syntax.specs.Read.{entry_of, read_fields, read_places}
 use Rattle.opam_syntax.specs.Parsing.{IsParsed}
 
 -- a plain identifier comes first
@@ -39,18 +39,20 @@ abbrev pub TakesText : List Placed → Option (List ℕ) → List Placed → Typ
 TakesText tokens None rest = (rest ≡ tokens) × (next_text tokens ≡ None)
 TakesText tokens (Some text) rest = (at : Span) × (tokens ≡ placed (Text text) at ∷ rest)
 
--- a name, a colon and a value
-pub record IsField (allowed : ℕ) (tokens : List Placed) (name : List ℕ) (from : Span) (value : Node) (rest : List Placed) : Type 0 where
+-- a name, where it begins, a colon and a value
+pub record IsField (allowed : ℕ) (tokens : List Placed) (name : List ℕ) (place : ℕ) (value : Node) (rest : List Placed) : Type 0 where
+  pub from : Span
   pub at : Span
   pub more : List Placed
+  pub starts : from.start ≡ place
   pub begins : tokens ≡ placed (Plain name) from ∷ placed Colon at ∷ more
   pub parsed : IsParsed ValueLevel allowed more value rest
 
 abbrev pub IsNoField : ℕ → List Placed → Type 0
-IsNoField allowed tokens = (name : List ℕ) (from : Span) (value : Node) (rest : List Placed) → ¬ (IsField allowed tokens name from value rest)
+IsNoField allowed tokens = (name : List ℕ) (place : ℕ) (value : Node) (rest : List Placed) → ¬ (IsField allowed tokens name place value rest)
 
 abbrev pub ReadsField : ℕ → List Placed → Result ReadField ParseFault → List Placed → Type 0
-ReadsField allowed tokens (Ok field) rest = IsField allowed tokens field.name field.span field.value rest
+ReadsField allowed tokens (Ok field) rest = IsField allowed tokens field.name field.place field.value rest
 ReadsField allowed tokens (Err fault) rest = fault ≢ Memory → IsNoField allowed tokens
 
 -- fields up to the brace that closes their section
@@ -62,8 +64,8 @@ abbrev pub AreNoFields : List Placed → Type 0
 AreNoFields tokens =
     (fields : List (List ℕ × Node)) (places : List ℕ) (to : Span) (rest : List Placed) → ¬ (AreClosedFields tokens fields places to rest)
 
-abbrev pub ReadsFields : List Placed → Result ReadFields ParseFault → List Placed → Type 0
-ReadsFields tokens (Ok inside) rest = AreClosedFields tokens inside.fields inside.places inside.to rest
+abbrev pub ReadsFields : List Placed → Result FieldsInside ParseFault → List Placed → Type 0
+ReadsFields tokens (Ok inside) rest = AreClosedFields tokens (read_fields inside.fields) (read_places inside.fields) inside.to rest
 ReadsFields tokens (Err fault) rest = fault ≢ Memory → AreNoFields tokens
 
 -- whatever entries the tokens spell, this is the first, and those of the rest are the others

@@ -2,6 +2,7 @@
 ghost use Rattle.std.specs.Prelude.{◌≡◌};
 ghost use Rattle.opam_syntax.specs.declared.fault.ParseFault.TheVariants.{Memory};
 
+use opam_names::OutOfMemory;
 use std::alloc::{AllocError, AllocFailed};
 
 /// What is wrong with the bytes, and at which of them, counted from 0.
@@ -44,6 +45,14 @@ impl<T: Drop> From<AllocFailed<T>> for ParseFault {
     ghost from_gives = { λ _ e. e ≡ Memory };
 
     fn from(_: AllocFailed<T>) -> Self {
+        ParseFault::Memory
+    }
+}
+
+impl From<OutOfMemory> for ParseFault {
+    ghost from_gives = { λ _ e. e ≡ Memory };
+
+    fn from(_: OutOfMemory) -> Self {
         ParseFault::Memory
     }
 }

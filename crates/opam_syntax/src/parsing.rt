@@ -4,17 +4,17 @@ ghost use Rattle.opam_syntax.specs.declared.token.Token.TheVariants.{Plain};
 ghost use Rattle.opam_syntax.specs.Tokens.{placed};
 ghost use Rattle.opam_syntax.specs.Files.{AreEntries, field_entry, section_entry};
 ghost use Rattle.opam_syntax.specs.Nesting.{AreShallow};
-ghost use Rattle.opam_syntax.specs.Read.{entry_of, placed_tokens, read_entries};
+ghost use Rattle.opam_syntax.specs.Read.{entry_of, placed_tokens, read_entries, read_fields, read_places};
 ghost use Rattle.opam_syntax.specs.Parsing.{next_sign};
 ghost use Rattle.opam_syntax.specs.ParsingEntries.{HasNoShallow, MakesEntry, ReadsEntry, ReadsField, ReadsFields, ReadsName};
 
-use crate::entry::{ReadContents, ReadEntry};
+use crate::entry::{ReadContents, ReadEntry, ReadField};
 use crate::fault::ParseFault;
 use crate::queue::{Sign, TokenQueue};
 use crate::token::{PlacedToken, Token};
 use crate::values::value;
 use crate::{Key, Label, Node, Span, Word};
-use sqlite_items::Items;
+use opam_names::Items;
 use std::alloc::Global;
 
 /// How many brackets and prefix operators may be open.
@@ -27,19 +27,10 @@ struct ReadName {
     span: Span,
 }
 
-/// A field, and where its name stands.
+/// The fields of a section, and where the brace stands that closes it.
 #[derive(Drop)]
-struct ReadField {
-    name: Word,
-    span: Span,
-    value: Node,
-}
-
-/// The fields of a section, where their names begin, and where the brace stands that closes it.
-#[derive(Drop)]
-struct ReadFields {
-    fields: Items<(Word, Node)>,
-    places: Items<u32>,
+struct FieldsInside {
+    fields: Items<ReadField>,
     to: Span,
 }
 
@@ -75,27 +66,25 @@ fn field(alloc: Global, tokens: &mut TokenQueue, allowed: u32) -> Result<ReadFie
             let value = value(alloc, tokens, allowed)?;
             Ok(ReadField {
                 name: word,
-                span,
                 value,
+                place: span.start,
             })
         }
     }
 }
 
 /// { field }, up to the brace that closes the section
-fn fields(alloc: Global, tokens: &mut TokenQueue) -> Result<ReadFields, ParseFault>
+fn fields(alloc: Global, tokens: &mut TokenQueue) -> Result<FieldsInside, ParseFault>
     ensures read { ReadsFields tokens.old result tokens.new }
     ensures shorter { OnOk result (length tokens.new < length tokens.old) }
 {
     let mut fields = Items::new(alloc);
-    let mut places = Items::new(alloc);
     loop {
         match tokens.take_sign(Sign::CloseBraces) {
-            Some(to) => return Ok(ReadFields { fields, places, to }),
+            Some(to) => return Ok(FieldsInside { fields, to }),
             None => {
-                let ReadField { name, span, value } = field(alloc, tokens, NESTING_LIMIT - 1)?;
-                fields.push((name, value))?;
-                places.push(span.start)?;
+                let next = field(alloc, tokens, NESTING_LIMIT - 1)?;
+                fields.push(next)?;
             }
         }
     }
@@ -110,7 +99,7 @@ fn entry(alloc: Global, tokens: &mut TokenQueue) -> Result<ReadEntry, ParseFault
     match tokens.take_sign(Sign::Colon) {
         Some(_) => {
             let value = value(alloc, tokens, NESTING_LIMIT)?;
-            Ok(make_field(alloc, name, value))
+            Ok(make_field(name, value))
         }
         None => section(alloc, tokens, name),
     }
@@ -132,7 +121,7 @@ fn section(alloc: Global, tokens: &mut TokenQueue, name: ReadName) -> Result<Rea
     }
 }
 
-fn make_field(alloc: Global, name: ReadName, value: Node) -> ReadEntry
+fn make_field(name: ReadName, value: Node) -> ReadEntry
     ensures { entry_of result ≡ field_entry name.word name.span value }
 {
     let span = Span {
@@ -147,23 +136,23 @@ fn make_field(alloc: Global, name: ReadName, value: Node) -> ReadEntry
         },
         contents: ReadContents::Field(value),
         span,
-        places: Items::new(alloc),
     }
 }
 
 fn make_section(
     alloc: Global,
     name: ReadName,
-    text: Option<Items<u8>>,
-    inside: ReadFields,
+    text: Option<sqlite_items::Items<u8>>,
+    inside: FieldsInside,
 ) -> Result<ReadEntry, ParseFault>
-    ensures { MakesEntry (section_entry name.word text name.span inside.fields inside.places inside.to) result }
+    ensures { MakesEntry (section_entry name.word text name.span
+        (read_fields inside.fields) (read_places inside.fields) inside.to) result }
 {
     let label = match text {
         None => None,
         Some(text) => Some(Label::from_vec(Vec::from_slice(alloc, text.as_slice())?)),
     };
-    let ReadFields { fields, places, to } = inside;
+    let FieldsInside { fields, to } = inside;
     let span = Span {
         start: name.span.start,
         end: to.end,
@@ -176,7 +165,6 @@ fn make_section(
         },
         contents: ReadContents::Section(fields),
         span,
-        places,
     })
 }
 

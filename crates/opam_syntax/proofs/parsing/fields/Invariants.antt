@@ -1,11 +1,12 @@
 use Rattle.std.proofs.Common.{◌≤◌, length}
+use Rattle.opam_syntax.specs.Read.{read_fields, read_places}
 use Rattle.opam_syntax.proofs.ParsedFields.{FieldsSoFar}
 use Rattle.opam_syntax.proofs.parsing.fields.Given as goal
 
 -- what was parsed is the beginning of whatever fields there are
 abbrev pub invariant-loop-to : goal.invariant-loop-to
 invariant-loop-to l = record {
-  so_far : FieldsSoFar l.fn.tokens l.fields l.places l.tokens;
+  so_far : FieldsSoFar l.fn.tokens (read_fields l.fields) (read_places l.fields) l.tokens;
   left : length l.tokens ≤ length l.fn.tokens;
 }
 
