@@ -33,3 +33,5 @@ pub mod ParsedInside
 pub mod ParsedResults
 pub mod ParsedFields
 pub mod ParsedEntries
+pub mod Doubling
+pub mod Assembled

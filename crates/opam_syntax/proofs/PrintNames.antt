@@ -167,7 +167,7 @@ neither_of false false e f = refl
 neither_of false true e f = f
 neither_of true y e f = absurd cc
 
-other_section : (s section : ℕ) (n m : List ℕ) → section + 1 ≤ s → name_eq (FieldName s n) (FieldName section m) ≡ false
+pub other_section : (s section : ℕ) (n m : List ℕ) → section + 1 ≤ s → name_eq (FieldName s n) (FieldName section m) ≡ false
 other_section s section n m l = first_fails (s == section) (bytes_eq n m) (ne_eqb s section (λ e. omega arith))
 
 fields_pass : (fields : List (List ℕ × Node)) (places : List ℕ) (section : ℕ) (seen : List (List ℕ)) (before : List Name) (keys : List Key) (rest : List (Name × ℕ))
@@ -213,7 +213,7 @@ free_items key keys c items e =
     both_right (names_free [] (inner_names_of c)) (items_free (key ∷ keys) items)
     (both_right (not (list_any (key_eq key) keys)) (names_free [] (inner_names_of c) && items_free (key ∷ keys) items) e)
 
-fields_end : {tokens : List Placed} {fields : List (List ℕ × Node)} {places : List ℕ} {to : Placed} {rest : List Placed} → AreFields tokens fields places (to ∷ rest)
+pub fields_end : {tokens : List Placed} {fields : List (List ℕ × Node)} {places : List ℕ} {to : Placed} {rest : List Placed} → AreFields tokens fields places (to ∷ rest)
     → (total from : ℕ) → InOrder total from tokens → (next : ℕ) × (from ≤ next) × InOrder total next (to ∷ rest)
 fields_end no_field total at o = (at, omega arith, o)
 fields_end (field {at = sign} {value = v} p q) total at o =

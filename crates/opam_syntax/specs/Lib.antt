@@ -18,3 +18,5 @@ pub mod Read
 pub mod Lexed
 pub mod Parsing
 pub mod ParsingEntries
+pub mod Assembly
+pub mod Reading

@@ -1,6 +1,7 @@
 // Why bytes are no file.
 ghost use Rattle.std.specs.Prelude.{◌≡◌};
 ghost use Rattle.opam_syntax.specs.declared.fault.ParseFault.TheVariants.{Memory};
+ghost use Rattle.opam_syntax.specs.declared.fault.SyntaxFault.TheVariants as syntax;
 
 use opam_names::OutOfMemory;
 use std::alloc::{AllocError, AllocFailed};
@@ -18,6 +19,30 @@ pub enum SyntaxFault {
     Doubled { at: u32 },
     /// Memory was refused.
     Memory,
+}
+
+impl From<OutOfMemory> for SyntaxFault {
+    ghost from_gives = { λ _ e. e ≡ syntax.Memory };
+
+    fn from(_: OutOfMemory) -> Self {
+        SyntaxFault::Memory
+    }
+}
+
+impl From<AllocError> for SyntaxFault {
+    ghost from_gives = { λ _ e. e ≡ syntax.Memory };
+
+    fn from(_: AllocError) -> Self {
+        SyntaxFault::Memory
+    }
+}
+
+impl<T: Drop> From<AllocFailed<T>> for SyntaxFault {
+    ghost from_gives = { λ _ e. e ≡ syntax.Memory };
+
+    fn from(_: AllocFailed<T>) -> Self {
+        SyntaxFault::Memory
+    }
 }
 
 /// Why tokens are no entries of a file. The number says how many tokens stand after the one at which it is seen.

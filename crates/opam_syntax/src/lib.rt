@@ -1,6 +1,7 @@
 //! The syntax of opam files: trees with spans, and what it means that bytes spell a tree (opam manual, file format).
 #![tactic(auto)]
 
+mod assembly;
 mod entry;
 mod fault;
 mod file;

@@ -1,0 +1,27 @@
+-- What a reader promises of a text that it refuses.
+use Rattle.std.specs.Prelude.{ℕ, List}
+use Rattle.opam_syntax.specs.declared.fault.SyntaxFault.{SyntaxFault}
+use Rattle.opam_syntax.specs.declared.fault.SyntaxFault.TheVariants.{Ended, Stray, Deep, Doubled, Memory}
+use Rattle.opam_syntax.specs.declared.file.File.{File}
+use Rattle.opam_syntax.specs.Faults.{IsDoubledAt}
+use Rattle.opam_syntax.specs.Trees.{IsTextOf}
+
+-- the bytes are the text of no file
+abbrev pub IsNoFile : List ℕ → Type 0
+IsNoFile bytes = (file : File) → ¬ (IsTextOf bytes file)
+
+-- but for want of memory, the bytes are the text of no file
+abbrev pub IsRefused : List ℕ → SyntaxFault → Type 0
+IsRefused bytes Memory = Unit {0}
+IsRefused bytes (Ended at) = IsNoFile bytes
+IsRefused bytes (Stray at) = IsNoFile bytes
+IsRefused bytes (Deep at) = IsNoFile bytes
+IsRefused bytes (Doubled at) = IsNoFile bytes
+
+-- a doubled name is the first that an earlier one equals
+abbrev pub IsDoubledWhereTold : List ℕ → SyntaxFault → Type 0
+IsDoubledWhereTold bytes (Doubled at) = IsDoubledAt bytes at
+IsDoubledWhereTold bytes Memory = Unit {0}
+IsDoubledWhereTold bytes (Ended at) = Unit {0}
+IsDoubledWhereTold bytes (Stray at) = Unit {0}
+IsDoubledWhereTold bytes (Deep at) = Unit {0}
