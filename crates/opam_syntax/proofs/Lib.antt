@@ -35,3 +35,4 @@ pub mod ParsedFields
 pub mod ParsedEntries
 pub mod Doubling
 pub mod Assembled
+pub mod FileRead

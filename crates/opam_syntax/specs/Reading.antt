@@ -1,5 +1,7 @@
 -- What a reader promises of a text that it refuses.
-use Rattle.std.specs.Prelude.{ℕ, List}
+use Rattle.std.specs.Prelude.{◌≢◌, ℕ, List}
+use Rattle.opam_syntax.specs.declared.fault.ParseFault.{ParseFault}
+use Rattle.opam_syntax.specs.declared.fault.ParseFault.TheVariants as parse
 use Rattle.opam_syntax.specs.declared.fault.SyntaxFault.{SyntaxFault}
 use Rattle.opam_syntax.specs.declared.fault.SyntaxFault.TheVariants.{Ended, Stray, Deep, Doubled, Memory}
 use Rattle.opam_syntax.specs.declared.file.File.{File}
@@ -25,3 +27,11 @@ IsDoubledWhereTold bytes Memory = Unit {0}
 IsDoubledWhereTold bytes (Ended at) = Unit {0}
 IsDoubledWhereTold bytes (Stray at) = Unit {0}
 IsDoubledWhereTold bytes (Deep at) = Unit {0}
+
+-- a fault of tokens is one of the text, and is of no doubled name
+abbrev pub IsParseFault : ParseFault → SyntaxFault → Type 0
+IsParseFault fault Memory = Unit {0}
+IsParseFault fault (Doubled at) = ⊥
+IsParseFault fault (Ended at) = fault ≢ parse.Memory
+IsParseFault fault (Stray at) = fault ≢ parse.Memory
+IsParseFault fault (Deep at) = fault ≢ parse.Memory

@@ -13,6 +13,7 @@ mod parsing;
 mod printing;
 mod printing_laws;
 mod queue;
+mod reading;
 mod rows;
 mod signs;
 mod texts;
@@ -29,5 +30,6 @@ pub use laws::{
 pub use limits::FILE_LIMIT;
 pub use printing::print_file;
 pub use printing_laws::printing_reads_back;
+pub use reading::read_file;
 pub use rows::{rows_are_faulty, rows_are_spelled, sample_is_printed, values_are_printed};
 pub use tree::{EnvOp, Node, RelOp, Span, Value, Var};
