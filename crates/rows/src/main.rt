@@ -14,6 +14,7 @@ mod lexer;
 mod lists;
 mod names;
 mod paths;
+mod reads;
 mod reports;
 mod runs;
 mod script;
@@ -107,6 +108,9 @@ fn answer(alloc: Global, call: &Call, world: &mut World) -> Result<String, Fault
         return Ok(text);
     }
     if let Some(text) = files::answer(alloc, call)? {
+        return Ok(text);
+    }
+    if let Some(text) = reads::answer(alloc, call)? {
         return Ok(text);
     }
     if let Some(text) = filters::answer(alloc, call, &mut world.vars)? {

@@ -1,0 +1,167 @@
+// Calls of `read_file`. A file is shown by its items, each with its place, and a value as `print_file` takes it: after its
+// parts, and with the place where it stands, as `x @3-4`. Of faults only a doubled name is told with its place.
+use crate::fault::Fault;
+use crate::script::Call;
+use crate::show::{plain, push_quoted};
+use opam_syntax::{
+    EnvOp, FILE_LIMIT, File, Item, Key, Node, RelOp, Span, SyntaxFault, Value, Var, read_file,
+};
+use std::alloc::Global;
+
+pub fn answer(alloc: Global, call: &Call) -> Result<Option<String>, Fault> {
+    match (call.name.as_str(), call.words.as_slice()) {
+        ("read_file", [text]) => Ok(Some(read(alloc, text.bytes.as_slice())?)),
+        _ => Ok(None),
+    }
+}
+
+fn read(alloc: Global, bytes: &[u8]) -> Result<String, Fault> {
+    if bytes.len() > FILE_LIMIT {
+        return Err(Fault::Line("the text is too long"));
+    }
+    match read_file(alloc, bytes) {
+        Ok(file) => show_file(alloc, &file),
+        Err(SyntaxFault::Doubled { at }) => Ok(format!(in alloc; "doubled at {at}")?),
+        Err(SyntaxFault::Memory) => Err(Fault::Memory),
+        Err(_) => plain(alloc, "no file"),
+    }
+}
+
+fn show_file(alloc: Global, file: &File) -> Result<String, Fault> {
+    let mut text = String::new(alloc);
+    for ((key, item), span) in file.items.iter().zip(file.places.as_slice()) {
+        let between = if text.is_empty() { "" } else { "; " };
+        push(&mut text, between)?;
+        push_item(&mut text, key, item, *span)?;
+    }
+    if text.is_empty() {
+        push(&mut text, "no items")?;
+    }
+    Ok(text)
+}
+
+fn push_item(text: &mut String, key: &Key, item: &Item, span: Span) -> Result<(), Fault> {
+    push(text, key.name.as_str())?;
+    if let Some(label) = &key.label {
+        push(text, " ")?;
+        push_quoted(text, label.as_slice())?;
+    }
+    push_span(text, span)?;
+    match item {
+        Item::Field(value) => {
+            push(text, ": ")?;
+            push_node(text, value)
+        }
+        Item::Section(fields) => {
+            push(text, " {")?;
+            for (name, value) in fields {
+                push(text, " ")?;
+                push(text, name.as_str())?;
+                push(text, ": ")?;
+                push_node(text, value)?;
+            }
+            push(text, " }")
+        }
+    }
+}
+
+#[cycle(show)]
+fn push_node(text: &mut String, node: &Node) -> Result<(), Fault> {
+    push_value(text, &node.value)?;
+    push_span(text, node.span)
+}
+
+#[cycle(show)]
+fn push_value(text: &mut String, value: &Value) -> Result<(), Fault> {
+    match value {
+        Value::Flag(flag) => push(text, if *flag { "true" } else { "false" }),
+        Value::Int(number) => Ok(write!(text, "{number}")?),
+        Value::Text(bytes) => push_quoted(text, bytes.as_slice()),
+        Value::Ident(variable) => push_variable(text, variable),
+        Value::List(nodes) => push_counted(text, nodes.as_slice(), "[", "]"),
+        Value::Group(nodes) => push_counted(text, nodes.as_slice(), "(", ")"),
+        Value::And(nodes) => push_counted(text, nodes.as_slice(), "&", ""),
+        Value::Or(nodes) => push_counted(text, nodes.as_slice(), "|", ""),
+        Value::Braced(before, nodes) => {
+            push_part(text, before.get())?;
+            push_counted(text, nodes.as_slice(), "{", "}")
+        }
+        Value::Not(part) => push_signed(text, part.get(), "!"),
+        Value::Defined(part) => push_signed(text, part.get(), "?"),
+        Value::PreRel(op, right) => {
+            push_signed(text, right.get(), "_")?;
+            push(text, relation_sign(*op))
+        }
+        Value::Rel(op, left, right) => {
+            push_part(text, left.get())?;
+            push_signed(text, right.get(), relation_sign(*op))
+        }
+        Value::Env(op, left, right) => {
+            push_part(text, left.get())?;
+            push_signed(text, right.get(), update_sign(*op))
+        }
+    }
+}
+
+#[cycle(show)]
+fn push_part(text: &mut String, node: &Node) -> Result<(), Fault> {
+    push_node(text, node)?;
+    push(text, " ")
+}
+
+#[cycle(show)]
+fn push_signed(text: &mut String, node: &Node, sign: &str) -> Result<(), Fault> {
+    push_part(text, node)?;
+    push(text, sign)
+}
+
+#[cycle(show)]
+fn push_counted(
+    text: &mut String,
+    nodes: &[Node],
+    opening: &str,
+    closing: &str,
+) -> Result<(), Fault> {
+    for node in nodes {
+        push_part(text, node)?;
+    }
+    let count = nodes.len();
+    Ok(write!(text, "{opening}{count}{closing}")?)
+}
+
+fn push_variable(text: &mut String, variable: &Var) -> Result<(), Fault> {
+    if let Some(scope) = &variable.scope {
+        push(text, scope.as_str())?;
+        push(text, ":")?;
+    }
+    push(text, variable.name.as_str())
+}
+
+fn push_span(text: &mut String, span: Span) -> Result<(), Fault> {
+    Ok(write!(text, " @{}-{}", span.start, span.end)?)
+}
+
+fn push(text: &mut String, part: &str) -> Result<(), Fault> {
+    Ok(text.push_str(part)?)
+}
+
+fn relation_sign(op: RelOp) -> &'static str {
+    match op {
+        RelOp::Eq => "=",
+        RelOp::Ne => "!=",
+        RelOp::Lt => "<",
+        RelOp::Le => "<=",
+        RelOp::Gt => ">",
+        RelOp::Ge => ">=",
+    }
+}
+
+fn update_sign(op: EnvOp) -> &'static str {
+    match op {
+        EnvOp::Set => "=set",
+        EnvOp::Before => "+=",
+        EnvOp::After => "=+",
+        EnvOp::BeforeKeep => ":=",
+        EnvOp::AfterKeep => "=:",
+    }
+}
