@@ -1,0 +1,12 @@
+// Laws of the spellings, each proved as a clause of a function that does nothing.
+ghost use Rattle.journal_text.specs.Laws.{OneRecordForBytes, OneSlotForBytes};
+
+/// Bytes spell at most one record.
+pub fn one_record_for_bytes()
+    ensures { OneRecordForBytes }
+{}
+
+/// Bytes spell at most one slot.
+pub fn one_slot_for_bytes()
+    ensures { OneSlotForBytes }
+{}
