@@ -1,9 +1,11 @@
 pub mod Apart
 pub mod CommitStops
 pub mod Committed
+pub mod Determined
 pub mod GatedTells
 pub mod Numbered
 pub mod Read
+pub mod ReadInside
 pub mod RedoStops
 pub mod SlotStops
 pub mod Slotted

@@ -3,6 +3,7 @@ use Rattle.std.specs.Prelude.{◌≡◌, ℕ, List, Bool, IsTrue}
 use Rattle.std.specs.FinMap.{get}
 use Rattle.crash_disk.specs.Disks.{Tree}
 use Rattle.switch_journal.specs.Places.{is_inside}
+use Rattle.switch_journal.specs.Reading.{Outcome, Reads}
 use Rattle.switch_journal.specs.Texts.{HoldsFrom, slot_at}
 
 -- files hold at most one list of counted records
@@ -17,3 +18,11 @@ AgreeInside tree image = (q : List ℕ) → IsTrue (is_inside q) → get image q
 abbrev pub ReadByTheirInside : Type 0
 ReadByTheirInside = (tree image : Tree) → AgreeInside tree image
     → ((first : ℕ) (texts : List (List ℕ)) → HoldsFrom first texts tree → HoldsFrom first texts image) × ((slot : Bool) → slot_at slot image ≡ slot_at slot tree)
+
+-- files say one thing, or have one first bad file
+abbrev pub OneOutcome : Type 0
+OneOutcome = (tree : Tree) (one other : Outcome) → Reads tree one → Reads tree other → one ≡ other
+
+-- files that are the same there say the same
+abbrev pub SayTheSameInside : Type 0
+SayTheSameInside = (tree image : Tree) → AgreeInside tree image → (outcome : Outcome) → Reads tree outcome → Reads image outcome

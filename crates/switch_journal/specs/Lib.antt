@@ -4,3 +4,6 @@ pub mod Laws
 pub mod Places
 pub mod Slots
 pub mod Texts
+pub mod Contents
+pub mod Applying
+pub mod Reading

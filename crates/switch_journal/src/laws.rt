@@ -1,5 +1,7 @@
 // Laws of reading, as functions that do nothing: what each ensures is proved.
-ghost use Rattle.switch_journal.specs.Laws.{OneListOfRecords, ReadByTheirInside};
+ghost use Rattle.switch_journal.specs.Laws.{OneListOfRecords, OneOutcome, ReadByTheirInside, SayTheSameInside};
+
+use journal_text::{one_record_for_bytes, one_slot_for_bytes};
 
 /// Files hold at most one list of counted records.
 pub fn records_are_determined()
@@ -9,4 +11,17 @@ pub fn records_are_determined()
 /// Which records count, and what the slots are, is told by the files of the journal alone.
 pub fn a_journal_is_read_by_its_files()
     ensures { ReadByTheirInside }
+{}
+
+/// Files say at most one thing of a switch, or have one first bad file.
+pub fn readings_are_determined()
+    ensures { OneOutcome }
+{
+    one_record_for_bytes();
+    one_slot_for_bytes();
+}
+
+/// What files say of a switch is told by the files of the journal alone.
+pub fn readings_are_of_the_journal()
+    ensures { SayTheSameInside }
 {}

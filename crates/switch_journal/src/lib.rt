@@ -6,10 +6,15 @@ mod commits;
 mod gated;
 mod laws;
 mod places;
+mod request;
 mod slots;
 
 pub use commits::{Ready, commit, make_ready, redo};
 pub use gated::{Gated, read_record, read_slot};
-pub use laws::{a_journal_is_read_by_its_files, records_are_determined};
+pub use laws::{
+    a_journal_is_read_by_its_files, readings_are_determined, readings_are_of_the_journal,
+    records_are_determined,
+};
 pub use places::{gate_path_of, record_path_of, slot_gate_of, slot_path_of};
+pub use request::{Done, ENTRY_LIMIT, OWNED_LIMIT, Open, TEXT_LIMIT};
 pub use slots::{ReadySlot, make_slot, write_slot};
