@@ -5,6 +5,7 @@ use Rattle.std.specs.declared.option.Option.TheVariants.{Some}
 use Rattle.opam_names.specs.Faults.{Begins}
 use Rattle.opam_syntax.specs.declared.fault.SyntaxFault.{SyntaxFault}
 use Rattle.opam_syntax.specs.declared.fault.SyntaxFault.TheVariants.{Ended, Stray, Deep, Doubled, Memory}
+use Rattle.opam_syntax.specs.declared.limits.TheConstants.{NESTING_LIMIT}
 use Rattle.opam_syntax.specs.declared.token.Token.{Token}
 use Rattle.opam_syntax.specs.declared.token.Token.TheVariants.{OpenList, OpenBraces, OpenGroup, Not, Defined}
 use Rattle.opam_syntax.specs.Signs.{begins_with}
@@ -42,7 +43,7 @@ pub record NestsAt (bytes : List ℕ) (place : ℕ) : Type 0 where
   pub spelled : AreTokens (length (bytes ++ more)) (bytes ++ more) tokens
   pub derived : AreEntries tokens entries
   pub opens : IsTrue (list_any (opens_at place) tokens)
-  pub nested : 64 ≤ nesting_at place entries
+  pub nested : NESTING_LIMIT ≤ nesting_at place entries
 
 -- the bytes begin with a comment, or a sign, that is longer than the bracket or the prefix operator that it begins like
 abbrev pub begins_longer : List ℕ → Bool

@@ -4,6 +4,7 @@ use Rattle.std.specs.Prelude.{ℕ, ◌+◌, ◌≤◌, max, List, [], ◌∷◌,
 use Rattle.std.specs.Option.{unwrap_or}
 use Rattle.std.specs.declared.option.Option.{Option}
 use Rattle.std.specs.declared.option.Option.TheVariants.{None, Some}
+use Rattle.opam_syntax.specs.declared.limits.TheConstants.{NESTING_LIMIT}
 use Rattle.opam_syntax.specs.declared.tree.Node.{Node}
 use Rattle.opam_syntax.specs.declared.tree.Span.{Span}
 use Rattle.opam_syntax.specs.declared.tree.Value.TheOpen.{Value-F, Node-F}
@@ -47,7 +48,7 @@ contents_depth (SectionContents fields) = 1 + most (map (λ field. depth field.1
 
 -- nothing nests deeper than 64
 abbrev pub AreShallow : List Entry → Type 0
-AreShallow entries = most (map (λ entry. contents_depth entry.contents) entries) ≤ 64
+AreShallow entries = most (map (λ entry. contents_depth entry.contents) entries) ≤ NESTING_LIMIT
 
 -- the first that is there
 abbrev pub first_of : Option ℕ → Option ℕ → Option ℕ

@@ -8,6 +8,7 @@ use Rattle.opam_syntax.specs.declared.fault.ParseFault.{ParseFault}
 use Rattle.opam_syntax.specs.declared.fault.ParseFault.TheVariants.{Memory}
 use Rattle.opam_syntax.specs.declared.parsing.ReadName.{ReadName}
 use Rattle.opam_syntax.specs.declared.parsing.FieldsInside.{FieldsInside}
+use Rattle.opam_syntax.specs.declared.limits.TheConstants.{NESTING_LIMIT}
 use Rattle.opam_syntax.specs.declared.token.Token.{Token}
 use Rattle.opam_syntax.specs.declared.token.Token.TheVariants.{Text, Plain, Colon, CloseBraces}
 use Rattle.opam_syntax.specs.declared.tree.Node.{Node}
@@ -58,7 +59,7 @@ ReadsField allowed tokens (Err fault) rest = fault ≢ Memory → IsNoField allo
 -- fields up to the brace that closes their section
 pub record AreClosedFields (tokens : List Placed) (fields : List (List ℕ × Node)) (places : List ℕ) (to : Span) (rest : List Placed) : Type 0 where
   pub spelled : AreFields tokens fields places (placed CloseBraces to ∷ rest)
-  pub shallow : 1 + most (map (λ field. depth field.1) fields) ≤ 64
+  pub shallow : 1 + most (map (λ field. depth field.1) fields) ≤ NESTING_LIMIT
 
 abbrev pub AreNoFields : List Placed → Type 0
 AreNoFields tokens =
@@ -72,11 +73,11 @@ ReadsFields tokens (Err fault) rest = fault ≢ Memory → AreNoFields tokens
 pub record IsEntry (tokens : List Placed) (entry : Entry) (rest : List Placed) : Type 0 where
   pub leads : (entries : List Entry) → AreEntries rest entries → AreEntries tokens (entry ∷ entries)
   pub only : (entries : List Entry) → AreEntries tokens entries → (more : List Entry) × (entries ≡ entry ∷ more) × AreEntries rest more
-  pub shallow : contents_depth entry.contents ≤ 64
+  pub shallow : contents_depth entry.contents ≤ NESTING_LIMIT
 
 -- no shallow entry is the first of what the tokens spell
 abbrev pub IsNoEntry : List Placed → Type 0
-IsNoEntry tokens = (entry : Entry) (more : List Entry) → AreEntries tokens (entry ∷ more) → ¬ (contents_depth entry.contents ≤ 64)
+IsNoEntry tokens = (entry : Entry) (more : List Entry) → AreEntries tokens (entry ∷ more) → ¬ (contents_depth entry.contents ≤ NESTING_LIMIT)
 
 abbrev pub ReadsEntry : List Placed → Result ReadEntry ParseFault → List Placed → Type 0
 ReadsEntry tokens (Ok entry) rest = IsEntry tokens (entry_of entry) rest

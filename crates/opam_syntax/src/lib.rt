@@ -27,7 +27,7 @@ pub use file::{File, Item, Key, Label, Word};
 pub use laws::{
     files_have_no_fault, one_derivation, one_fault_for_bytes, one_tree_for_bytes, spans_are_within,
 };
-pub use limits::FILE_LIMIT;
+pub use limits::{FILE_LIMIT, NESTING_LIMIT};
 pub use printing::print_file;
 pub use printing_laws::printing_reads_back;
 pub use reading::read_file;

@@ -10,15 +10,13 @@ ghost use Rattle.opam_syntax.specs.ParsingEntries.{HasNoShallow, MakesEntry, Rea
 
 use crate::entry::{ReadContents, ReadEntry, ReadField};
 use crate::fault::ParseFault;
+use crate::limits::NESTING_LIMIT;
 use crate::queue::{Sign, TokenQueue};
 use crate::token::{PlacedToken, Token};
 use crate::values::value;
 use crate::{Key, Label, Node, Span, Word};
 use opam_names::Items;
 use std::alloc::Global;
-
-/// How many brackets and prefix operators may be open.
-const NESTING_LIMIT: u32 = 64;
 
 /// A plain identifier where a field or a section begins.
 #[derive(Drop)]
@@ -47,7 +45,9 @@ fn name(tokens: &mut TokenQueue) -> Result<ReadName, ParseFault>
 }
 
 // At the token that comes next.
-fn misplaced(tokens: &TokenQueue) -> ParseFault {
+fn misplaced(tokens: &TokenQueue) -> ParseFault
+    ensures { result ≢ ParseFault.Memory }
+{
     match tokens.len() {
         0 => ParseFault::Ended,
         left => ParseFault::Stray(left - 1),
