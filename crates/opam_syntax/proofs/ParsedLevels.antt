@@ -1,5 +1,5 @@
 -- What is parsed at a level, from what is parsed at the levels in it.
-use Rattle.std.proofs.Common.{◌≡◌, ◌≢◌, ℕ, ◌-◌, ◌<◌, ◌≤◌, true, false, List, [], ◌∷◌, refl, sym, ap, ◌∙◌, arith}
+use Rattle.std.proofs.Common.{◌≡◌, ◌≢◌, ℕ, ◌-◌, ◌<◌, ◌≤◌, true, false, List, [], ◌∷◌, refl, sym, ap, ◌∙◌, arith, subst}
 use Rattle.std.specs.declared.option.Option.TheVariants.{None, Some}
 use Rattle.opam_syntax.specs.declared.token.Token.{Token}
 use Rattle.opam_syntax.specs.declared.token.Token.TheVariants.{OpenList, OpenBraces, CloseBraces, OpenGroup, Relation, Update, And, Or, Not, Defined}
@@ -14,9 +14,12 @@ use Rattle.opam_syntax.specs.declared.tree.Node.{Node}
 use Rattle.opam_syntax.specs.declared.tree.Value.{Value}
 use Rattle.opam_syntax.specs.declared.tree.Value.TheOpen.{Value-F}
 use Rattle.opam_syntax.specs.Tokens.{Placed, placed}
-use Rattle.opam_syntax.specs.Grammar.{Level, ValueLevel, OrLevel, UnaryLevel, RelationLevel, BracedLevel, PrimaryLevel, atom_of, node, begins_relation, Spells, atom, list, group, bare, braced, pre_relation, alone, relation, no_prefix, negation, definedness, no_update, update, AreValues}
+use Rattle.opam_syntax.specs.Grammar.{Level, ValueLevel, OrLevel, UnaryLevel, RelationLevel, BracedLevel, PrimaryLevel, atom_of, node, begins_relation, Spells, atom, list, group, bare, braced, pre_relation, alone, relation, no_prefix, negation, definedness, no_update, update, AreValues, conjunction, last_conjunct, disjunction, last_disjunct}
 use Rattle.opam_syntax.specs.Nesting.{depth}
-use Rattle.opam_syntax.specs.Parsing.{stops, stops_at, follower, sign_of, next_sign, relation_of, next_relation, update_of, next_update, prefix_token, next_prefix, prefix_node, IsParsed, IsRefused, AreEnclosed, AreNoneEnclosed}
+use Rattle.std.specs.Prelude.{◌&&◌}
+use Rattle.opam_names.proofs.Bytes.{both_left, both_right}
+use Rattle.opam_syntax.specs.declared.token.Token.TheVariants.{Flag, Int, Text, Plain, Scoped}
+use Rattle.opam_syntax.specs.Parsing.{stops, stops_at, follower, sign_of, next_sign, relation_of, next_relation, update_of, next_update, prefix_token, next_prefix, prefix_node, is_atom, ends_value, end_value, next_is_lone, IsParsed, IsRefused, AreEnclosed, AreNoneEnclosed}
 use Rattle.opam_syntax.proofs.OneTree.{same, same_values, starts, or_stops, primary_stops, no_relation_braced, no_not_relation, no_defined_relation, tail_same, values_too, spells_too, begins, none_some}
 use Rattle.opam_syntax.proofs.Depths.{depth_list, depth_group, depth_braced, depth_not, depth_defined, depth_rel, depth_pre_rel, depth_env, depth_atom}
 
@@ -317,3 +320,48 @@ again_refused allowed op next at by tokens more rest left right p u n r q =
     update_none p.spelled
     (λ w s v k. let e = same u.spelled refl v.spelled v.stopped in let f = ap (stops ValueLevel) e.1 ∙ k in absurd cc)
     q.spelled q.stopped q.shallow
+
+-- an atom alone
+
+ends_at : (token : Token) → ends_value token ≡ true → stops_at ValueLevel (follower token) ≡ true
+ends_at OpenBraces h = absurd cc
+ends_at And h = absurd cc
+ends_at Or h = absurd cc
+ends_at (Update op) h = absurd cc
+ends_at token h = refl
+
+ends : (rest : List Placed) → end_value rest ≡ true → stops ValueLevel rest ≡ true
+ends [] h = refl
+ends (placed token at ∷ rest) h = ends_at token h
+
+no_relation_at : (token : Token) (at : Span) (rest : List Placed) → ends_value token ≡ true → begins_relation (placed token at ∷ rest) ≡ false
+no_relation_at (Relation op) at rest h = absurd cc
+no_relation_at token at rest h = refl
+
+no_relation_after : (rest : List Placed) → end_value rest ≡ true → begins_relation rest ≡ false
+no_relation_after [] h = refl
+no_relation_after (placed token at ∷ rest) h = no_relation_at token at rest h
+
+pub lone_parsed : (tokens rest : List Placed) (token : Token) (v : Value) (at : Span) → tokens ≡ placed token at ∷ rest → atom_of token ≡ Some v
+    → end_value rest ≡ true → (allowed : ℕ) → IsParsed ValueLevel allowed tokens (record { value = v; span = at }) rest
+lone_parsed tokens rest token v at e f h allowed =
+    let n : Node = record { value = v; span = at } in
+    subst (λ ts. IsParsed ValueLevel allowed ts n rest) (sym e) (record {
+      spelled = no_update (disjunction (last_disjunct (conjunction (last_conjunct (no_prefix (alone (bare (atom f)) (no_relation_after rest h)))))));
+      stopped = ends rest h;
+      shallow = let d = depth_atom token v at f in omega arith;
+    })
+
+pub lone_ends : (token : Token) (at : Span) (tokens rest : List Placed) → tokens ≡ placed token at ∷ rest → next_is_lone tokens ≡ true
+    → (is_atom token ≡ true) × (end_value rest ≡ true)
+lone_ends token at tokens rest e h =
+    let f : (is_atom token && end_value rest) ≡ true = ap next_is_lone (sym e) ∙ h in
+    (both_left (is_atom token) (end_value rest) f, both_right (is_atom token) (end_value rest) f)
+
+pub atom_is_some : (token : Token) → is_atom token ≡ true → atom_of token ≡ None → ⊥
+atom_is_some (Flag flag) h e = cc
+atom_is_some (Int number) h e = cc
+atom_is_some (Text bytes) h e = cc
+atom_is_some (Plain name) h e = cc
+atom_is_some (Scoped scope name) h e = cc
+atom_is_some token h e = absurd cc

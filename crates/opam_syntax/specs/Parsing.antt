@@ -1,12 +1,12 @@
 -- Parsing by levels: a value is parsed as far as it goes, so that what stands after it does not go on with it. Words that only the
 -- parser's own clauses cite.
-use Rattle.std.specs.Prelude.{◌≡◌, ◌≢◌, ℕ, ◌+◌, ◌≤◌, List, [], ◌∷◌, map, Bool, true, false, Result, Ok, Err}
+use Rattle.std.specs.Prelude.{◌≡◌, ◌≢◌, ℕ, ◌+◌, ◌<◌, ◌≤◌, ◌&&◌, length, List, [], ◌∷◌, map, Bool, true, false, Result, Ok, Err}
 use Rattle.std.specs.declared.option.Option.{Option}
 use Rattle.std.specs.declared.option.Option.TheVariants.{None, Some}
 use Rattle.opam_syntax.specs.declared.fault.ParseFault.{ParseFault}
 use Rattle.opam_syntax.specs.declared.fault.ParseFault.TheVariants.{Memory}
 use Rattle.opam_syntax.specs.declared.token.Token.{Token}
-use Rattle.opam_syntax.specs.declared.token.Token.TheVariants.{Colon, OpenList, CloseList, OpenBraces, CloseBraces, OpenGroup, CloseGroup, Relation, Update, And, Or, Not, Defined}
+use Rattle.opam_syntax.specs.declared.token.Token.TheVariants.{Flag, Int, Text, Plain, Scoped, Colon, OpenList, CloseList, OpenBraces, CloseBraces, OpenGroup, CloseGroup, Relation, Update, And, Or, Not, Defined}
 use Rattle.opam_syntax.specs.declared.token.PlacedToken.{PlacedToken}
 use Rattle.opam_syntax.specs.declared.queue.Sign.{Sign}
 use Rattle.opam_syntax.specs.declared.queue.Sign.TheVariants as sign
@@ -177,6 +177,39 @@ IsRefused level allowed tokens = (node : Node) (rest : List Placed) → ¬ (IsPa
 abbrev pub Parses : Level → ℕ → List Placed → Result Node ParseFault → List Placed → Type 0
 Parses level allowed tokens (Ok node) rest = IsParsed level allowed tokens node rest
 Parses level allowed tokens (Err fault) rest = fault ≢ Memory → IsRefused level allowed tokens
+
+-- a token that is a value
+abbrev pub is_atom : Token → Bool
+is_atom (Flag flag) = true
+is_atom (Int number) = true
+is_atom (Text bytes) = true
+is_atom (Plain name) = true
+is_atom (Scoped scope name) = true
+is_atom token = false
+
+-- a token that goes on with no atom, at no level
+abbrev pub ends_value : Token → Bool
+ends_value OpenBraces = false
+ends_value And = false
+ends_value Or = false
+ends_value (Relation op) = false
+ends_value (Update op) = false
+ends_value token = true
+
+-- such tokens, or none
+abbrev pub end_value : List Placed → Bool
+end_value [] = true
+end_value (placed token at ∷ tokens) = ends_value token
+
+-- an atom, and nothing that goes on with it
+abbrev pub next_is_lone : List Placed → Bool
+next_is_lone [] = false
+next_is_lone (placed token at ∷ tokens) = is_atom token && end_value tokens
+
+-- a value that is an atom, whatever is allowed, or nothing is taken
+abbrev pub ReadsLoneAtom : List Placed → Option Node → List Placed → Type 0
+ReadsLoneAtom tokens None rest = rest ≡ tokens
+ReadsLoneAtom tokens (Some node) rest = ((allowed : ℕ) → IsParsed ValueLevel allowed tokens node rest) × (length rest < length tokens)
 
 -- the sign that closes a bracket
 abbrev pub closing : Bracket → Sign

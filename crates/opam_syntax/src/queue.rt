@@ -2,7 +2,7 @@
 ghost use Rattle.std.specs.Prelude.{◌≡◌, length};
 ghost use Rattle.std.specs.Option.{option_copied, is_some};
 ghost use Rattle.opam_syntax.specs.Read.{placed_tokens};
-ghost use Rattle.opam_syntax.specs.Parsing.{closing, first_token, next_prefix, next_relation, next_sign, next_update, sign_of, Takes, TakesPrefix, TakesRelation, TakesSign, TakesUpdate};
+ghost use Rattle.opam_syntax.specs.Parsing.{closing, ends_value, first_token, is_atom, next_is_lone, next_prefix, next_relation, next_sign, next_update, sign_of, Takes, TakesPrefix, TakesRelation, TakesSign, TakesUpdate};
 ghost use Rattle.opam_syntax.specs.ParsingEntries.{next_text, text_of, TakesText};
 
 use crate::token::{PlacedToken, Token};
@@ -105,6 +105,17 @@ impl TokenQueue {
         }
     }
 
+    /// Whether an atom comes next, and after it nothing that goes on with it.
+    pub(crate) fn next_is_lone(&self) -> bool
+        ensures { result ≡ next_is_lone self.now }
+    {
+        match (self.left.front(), self.left.get(1)) {
+            (None, _) => false,
+            (Some(next), None) => is_atom(&next.token),
+            (Some(next), Some(after)) => is_atom(&next.token) && ends_value(&after.token),
+        }
+    }
+
     /// Takes the sign, if it comes next, and says where it stands.
     pub(crate) fn take_sign(&mut self, sign: Sign) -> Option<Span>
         ensures { TakesSign sign self.old result self.new }
@@ -203,6 +214,24 @@ impl TokenQueue {
             },
         }
     }
+}
+
+fn is_atom(token: &Token) -> bool
+    ensures { result ≡ is_atom token.now }
+{
+    matches!(
+        token,
+        Token::Flag(_) | Token::Int(_) | Token::Text(_) | Token::Plain(_) | Token::Scoped(_, _)
+    )
+}
+
+fn ends_value(token: &Token) -> bool
+    ensures { result ≡ ends_value token.now }
+{
+    !matches!(
+        token,
+        Token::OpenBraces | Token::And | Token::Or | Token::Relation(_) | Token::Update(_)
+    )
 }
 
 fn text_of(token: Token) -> Option<Items<u8>>

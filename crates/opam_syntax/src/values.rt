@@ -1,7 +1,7 @@
 // Values are parsed by descent: a function for each level of the grammar, which takes what the level goes on with.
 ghost use Rattle.std.specs.Prelude.{◌≡◌, ◌<◌, [], ◌∷◌, length, OnOk};
 ghost use Rattle.opam_syntax.specs.Grammar.{ValueLevel, OrLevel, AndLevel, UnaryLevel, RelationLevel, BracedLevel, PrimaryLevel, node};
-ghost use Rattle.opam_syntax.specs.Parsing.{Encloses, IsBeginning, JoinsAll, JoinsAny, Makes, Parses, prefix_node};
+ghost use Rattle.opam_syntax.specs.Parsing.{Encloses, IsBeginning, JoinsAll, JoinsAny, Makes, Parses, prefix_node, ReadsLoneAtom};
 ghost use Rattle.opam_syntax.specs.declared.tree.Value.TheOpen.{Value-F};
 
 use crate::fault::ParseFault;
@@ -27,13 +27,25 @@ struct Enclosed {
     to: Span,
 }
 
-/// value = or [ update or ]
+/// A value. One that is an atom alone, as most are, does not go through the levels.
 #[cycle(parse)]
 pub(crate) fn value(
     alloc: Global,
     tokens: &mut TokenQueue,
     allowed: u32,
 ) -> Result<Node, ParseFault>
+    ensures parsed { Parses ValueLevel allowed tokens.old result tokens.new }
+    ensures shorter { OnOk result (length tokens.new < length tokens.old) }
+{
+    match lone_atom(tokens) {
+        Some(node) => Ok(node),
+        None => whole_value(alloc, tokens, allowed),
+    }
+}
+
+/// value = or [ update or ]
+#[cycle(parse)]
+fn whole_value(alloc: Global, tokens: &mut TokenQueue, allowed: u32) -> Result<Node, ParseFault>
     ensures parsed { Parses ValueLevel allowed tokens.old result tokens.new }
     ensures shorter { OnOk result (length tokens.new < length tokens.old) }
 {
@@ -231,6 +243,22 @@ fn values_inside(
                 nodes.push(node)?;
             }
         }
+    }
+}
+
+// An atom, if what stands after it does not go on with it.
+fn lone_atom(tokens: &mut TokenQueue) -> Option<Node>
+    ensures { ReadsLoneAtom tokens.old result tokens.new }
+{
+    if !tokens.next_is_lone() {
+        return None;
+    }
+    match tokens.take() {
+        None => None,
+        Some(PlacedToken { token, span }) => match begin(token) {
+            Beginning::Atom(value) => Some(Node { value, span }),
+            _ => None,
+        },
     }
 }
 

@@ -181,25 +181,25 @@ unary-returns-in_ok-operand-in-Some-clause-parsed t c =
     (level.prefix_parsed c.args.allowed c.in-Some.prefix c.in-Some.from c.take_prefix.new.self c.in_ok-operand-in-Some.operand c.unary.new.tokens
     c.if-allowed-eq0.false c.in_ok-operand-in-Some.ensures.parsed))
 
-pub value-returns-in_err-left-clause-parsed : goal.value-returns-in_err-left-clause-parsed
-value-returns-in_err-left-clause-parsed t c =
+pub whole_value-returns-in_err-left-clause-parsed : goal.whole_value-returns-in_err-left-clause-parsed
+whole_value-returns-in_err-left-clause-parsed t c =
     refused_parse ValueLevel c.args.allowed c.args.tokens.now c.disjuncts.new.tokens c.from_residual.result c.in_err-left.field-0.0 c.from_residual.ensures.1
     (λ k. level.value_refused c.args.allowed c.args.tokens.now (c.in_err-left.ensures.parsed k))
 
-pub value-returns-in_err-right-in-Some-clause-parsed : goal.value-returns-in_err-right-in-Some-clause-parsed
-value-returns-in_err-right-in-Some-clause-parsed t c =
+pub whole_value-returns-in_err-right-in-Some-clause-parsed : goal.whole_value-returns-in_err-right-in-Some-clause-parsed
+whole_value-returns-in_err-right-in-Some-clause-parsed t c =
     refused_parse ValueLevel c.args.allowed c.args.tokens.now c.disjuncts-in-Some.new.tokens c.from_residual-in_err-right-in-Some.result
     c.in_err-right-in-Some.field-0.0 c.from_residual-in_err-right-in-Some.ensures.1
     (λ k. level.update_refused c.args.allowed c.in-Some.op c.in-Some.field-0-1 c.args.tokens.now c.take_update.new.self c.in_ok-left.left
     (ending c.in-Some.ensures c.in_ok-left.ensures.parsed) (c.in_err-right-in-Some.ensures.parsed k))
 
-pub value-returns-in-None-clause-parsed : goal.value-returns-in-None-clause-parsed
-value-returns-in-None-clause-parsed t c =
+pub whole_value-returns-in-None-clause-parsed : goal.whole_value-returns-in-None-clause-parsed
+whole_value-returns-in-None-clause-parsed t c =
     ending (sym c.in-None.ensures.0)
     (level.no_update_parsed c.args.allowed c.args.tokens.now c.in_ok-left.left c.disjuncts.new.tokens c.in_ok-left.ensures.parsed c.in-None.ensures.1)
 
-pub value-returns-in-None-take_update-clause-parsed : goal.value-returns-in-None-take_update-clause-parsed
-value-returns-in-None-take_update-clause-parsed t c =
+pub whole_value-returns-in-None-take_update-clause-parsed : goal.whole_value-returns-in-None-take_update-clause-parsed
+whole_value-returns-in-None-take_update-clause-parsed t c =
     made_parse ValueLevel c.args.allowed c.args.tokens.now c.take_update-in-Some.new.self
     (node (Value-F.Env c.in-Some.op c.in_ok-left.left c.in_ok-right-in-Some.right) c.in_ok-left.left.span c.in_ok-right-in-Some.right.span)
     c.update.result c.update.ensures
@@ -208,8 +208,8 @@ value-returns-in-None-take_update-clause-parsed t c =
     c.in_ok-right-in-Some.right c.disjuncts-in-Some.new.tokens
     (ending c.in-Some.ensures c.in_ok-left.ensures.parsed) c.in_ok-right-in-Some.ensures.parsed c.in-None-take_update.ensures.1))
 
-pub value-returns-in-Some-take_update-clause-parsed : goal.value-returns-in-Some-take_update-clause-parsed
-value-returns-in-Some-take_update-clause-parsed t c =
+pub whole_value-returns-in-Some-take_update-clause-parsed : goal.whole_value-returns-in-Some-take_update-clause-parsed
+whole_value-returns-in-Some-take_update-clause-parsed t c =
     λ k. level.again_refused c.args.allowed c.in-Some.op c.in-Some-take_update.field-0.0 c.in-Some.field-0-1 c.in-Some-take_update.field-0.1
     c.args.tokens.now c.take_update.new.self c.take_update-in-Some.new.self c.in_ok-left.left c.in_ok-right-in-Some.right
     (ending c.in-Some.ensures c.in_ok-left.ensures.parsed) (ending c.in-Some-take_update.ensures c.in_ok-right-in-Some.ensures.parsed)
@@ -284,3 +284,6 @@ values_inside-loop-to-preserved t c = record {
       c.loop-to.invariant.so_far (parsed_at c.in-None.ensures.0 c.in_ok-node-in-None.ensures.parsed));
   left = omega (arith, ap length c.in-None.ensures.0, c.in_ok-node-in-None.ensures.shorter, c.loop-to.invariant.left);
 }
+
+pub value-returns-in-Some-clause-parsed : goal.value-returns-in-Some-clause-parsed
+value-returns-in-Some-clause-parsed t c = c.in-Some.ensures.0 c.args.allowed

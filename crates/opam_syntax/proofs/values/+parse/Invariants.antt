@@ -7,34 +7,37 @@ use Rattle.opam_syntax.proofs.values.+parse.Given as goal
 -- the tokens that are left, and among functions that take none first how deep the grammar's level is
 
 abbrev pub decreases-value : goal.decreases-value
-decreases-value l = 8 * length l.tokens.now + 6
+decreases-value l = 9 * length l.tokens.now + 7
+
+abbrev pub decreases-whole_value : goal.decreases-whole_value
+decreases-whole_value l = 9 * length l.tokens.now + 6
 
 abbrev pub decreases-disjuncts : goal.decreases-disjuncts
-decreases-disjuncts l = 8 * length l.tokens.now + 5
+decreases-disjuncts l = 9 * length l.tokens.now + 5
 
 abbrev pub decreases-more_disjuncts : goal.decreases-more_disjuncts
-decreases-more_disjuncts l = 8 * length l.tokens.now + 5
+decreases-more_disjuncts l = 9 * length l.tokens.now + 5
 
 abbrev pub decreases-conjuncts : goal.decreases-conjuncts
-decreases-conjuncts l = 8 * length l.tokens.now + 4
+decreases-conjuncts l = 9 * length l.tokens.now + 4
 
 abbrev pub decreases-more_conjuncts : goal.decreases-more_conjuncts
-decreases-more_conjuncts l = 8 * length l.tokens.now + 4
+decreases-more_conjuncts l = 9 * length l.tokens.now + 4
 
 abbrev pub decreases-unary : goal.decreases-unary
-decreases-unary l = 8 * length l.tokens.now + 3
+decreases-unary l = 9 * length l.tokens.now + 3
 
 abbrev pub decreases-relation : goal.decreases-relation
-decreases-relation l = 8 * length l.tokens.now + 2
+decreases-relation l = 9 * length l.tokens.now + 2
 
 abbrev pub decreases-braced : goal.decreases-braced
-decreases-braced l = 8 * length l.tokens.now + 1
+decreases-braced l = 9 * length l.tokens.now + 1
 
 abbrev pub decreases-primary : goal.decreases-primary
-decreases-primary l = 8 * length l.tokens.now
+decreases-primary l = 9 * length l.tokens.now
 
 abbrev pub decreases-values_inside : goal.decreases-values_inside
-decreases-values_inside l = 8 * length l.tokens.now + 7
+decreases-values_inside l = 9 * length l.tokens.now + 8
 
 -- what was parsed is the beginning of whatever is there
 
