@@ -87,6 +87,14 @@ module _ {X : Type 0} (key : X → List ℕ) where
   pub none_met : (text : List ℕ) (xs : List X) → find (meets_text key text) xs ≡ None → list_any (meets text) (map key xs) ≡ false
   none_met text xs none = keys_none (meets text) xs (none_found (meets_text key text) xs none)
 
+  pub some_met : (text : List ℕ) (xs : List X) (x : X) → find (meets_text key text) xs ≡ Some x → list_any (meets text) (map key xs) ≡ true
+  some_met text [] x found = absurd cc
+  some_met text (y ∷ xs) x found = by (meets text (key y)) found (some_met text xs x)
+    where
+      by : (b : Bool) → cond b (Some y) (find (meets_text key text) xs) ≡ Some x → (find (meets_text key text) xs ≡ Some x → list_any (meets text) (map key xs) ≡ true) → (b || list_any (meets text) (map key xs)) ≡ true
+      by true is later = refl
+      by false is later = later is
+
   and_false : (a b : Bool) → b ≡ false → (a && b) ≡ false
   and_false true b is = is
   and_false false b is = refl

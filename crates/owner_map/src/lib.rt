@@ -2,13 +2,17 @@
 //! new paths with it.
 #![tactic(auto)]
 
+mod chunk;
+mod chunks;
 mod clash;
 mod earlier;
+mod laws;
 mod meeting;
 mod owned;
 mod owners;
 mod sorted_list;
 
 pub use clash::{Clash, Other};
+pub use laws::additions_are_met;
 pub use owned::OwnedPath;
 pub use owners::Owners;

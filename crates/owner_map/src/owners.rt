@@ -1,5 +1,5 @@
 // Who owns the paths of a switch.
-ghost use Rattle.std.specs.Prelude.{◌≡◌, ◌+◌, ◌<◌, ◌≤◌, [], false, filter, length, slice_get, slice_index_or, take, IfNone, IfOk, IfSome, OnOk};
+ghost use Rattle.std.specs.Prelude.{◌≡◌, ◌+◌, ◌<◌, ◌≤◌, [], false, filter, not, length, slice_get, slice_index_or, take, IfNone, IfOk, IfSome, OnOk};
 ghost use Rattle.std.specs.List.{list_any};
 ghost use Rattle.std.specs.Option.{option_copied};
 ghost use Rattle.opam_names.specs.ByteOrders.{count_before, put_by};
@@ -97,6 +97,19 @@ impl Owners {
         Ok(None)
     }
 
+    /// Whether the path meets no owned one.
+    pub fn is_free(&self, path: &RelPath) -> Result<bool, OutOfMemory>
+        ensures { IfOk result (λ free.
+            list_any (meets path.now) (paths_of self.now.owned) ≡ not free) }
+    {
+        let text = path.as_str().as_bytes();
+        let bound = bound_below(self.alloc, text)?;
+        match find_met(&self.list, text, &bound) {
+            Some(_) => Ok(false),
+            None => Ok(true),
+        }
+    }
+
     // The least path that the new path at this place meets. The earlier ones stand in byte order.
     fn other_met(
         &self,
@@ -135,6 +148,13 @@ impl Owners {
         ensures { result ≡ Owned (count_before path_of entry.now.path self.now.owned) }
     {
         Other::Owned(self.list.place(entry.key()))
+    }
+
+    /// How many more paths are added without memory.
+    pub fn spare(&self) -> usize
+        ensures { result ≡ self.now.spare }
+    {
+        self.list.room()
     }
 
     /// Makes room for so many more paths.

@@ -1,5 +1,5 @@
 // A list in the byte order of a key, with room made beforehand.
-ghost use Rattle.std.specs.Prelude.{◌≡◌, ◌+◌, ◌<◌, ◌≤◌, [], length, filter, slice_get, OnErr, OnOk};
+ghost use Rattle.std.specs.Prelude.{◌≡◌, ◌+◌, ◌<◌, ◌≤◌, [], length, filter, slice_get, slice_index_or, OnOk};
 ghost use Rattle.std.specs.List.{find};
 ghost use Rattle.std.specs.Option.{option_copied};
 ghost use Rattle.opam_names.specs.ByteOrders.{RisesBy, count_before, put_by};
@@ -7,26 +7,36 @@ ghost use Rattle.owner_map.specs.Owning.{is_of_another};
 ghost use Rattle.owner_map.specs.Searching.{is_from};
 
 use crate::OwnedPath;
+use crate::chunk::{CHUNK_LIMIT, Chunk};
+use crate::chunks::{
+    chunk_for, chunk_from, count_all, drop_from_each, element, gather, make_room, split,
+};
 use opam_names::{ByteKey, OutOfMemory, Pkg, count_before_bytes};
 use std::alloc::Global;
 use std::marker::Model;
 
-/// A list in the byte order of a key, which contracts see with its room: how many more elements it takes without memory.
+/// A list in the byte order of a key, which contracts see with its room: how many more elements it takes without memory. It
+/// is kept in chunks, so that an addition moves few elements.
 #[derive(Drop)]
 pub(crate) struct SortedList<T> {
-    inner: Vec<T>,
+    chunks: Vec<Chunk<T>>,
+    used: usize,
+    len: usize,
+    room: usize,
+    alloc: Global,
 }
 
 impl<T> Model for SortedList<T> {
-    ghost use Rattle.std.specs.Prelude.{◌-◌};
-    ghost use Rattle.std.specs.Vec.{vec_capacity, vec_len};
     ghost use Rattle.opam_names.specs.Buffers.{Buffered, coded_buffered};
+    ghost use Rattle.owner_map.specs.Chunks.{AreChunks, joined};
 
     ghost Value = { Buffered T };
 
     ghost coded = { coded_buffered T.code };
 
-    ghost view = { λ b. record { items = b.inner.items; room = vec_capacity b.inner - vec_len b.inner } };
+    ghost view = { λ b. record { items = joined b.chunks.items; room = b.room } };
+
+    ghost invariant = { λ b. AreChunks b.chunks.items b.used b.len b.room };
 }
 
 impl<T> SortedList<T> {
@@ -34,30 +44,49 @@ impl<T> SortedList<T> {
         ensures { result.items ≡ [] }
     {
         SortedList {
-            inner: Vec::new(alloc),
+            chunks: Vec::new(alloc),
+            used: 0,
+            len: 0,
+            room: 0,
+            alloc,
         }
     }
 
     pub(crate) fn len(&self) -> usize
         ensures { result ≡ length self.now.items }
     {
-        self.inner.len()
+        self.len
+    }
+
+    pub(crate) fn room(&self) -> usize
+        ensures { result ≡ self.now.room }
+    {
+        self.room
     }
 
     pub(crate) fn at(&self, place: usize) -> &T
         requires { place < length self.now.items }
         ensures { slice_get self.now.items place ≡ Some result.now }
     {
-        &self.inner[place]
+        element(self.chunks.as_slice(), place)
     }
+}
 
+impl<T: Drop> SortedList<T> {
     /// Makes room for so many more elements.
     pub(crate) fn reserve(&mut self, more: usize) -> Result<(), OutOfMemory>
         ensures ok { OnOk result (more ≤ self.new.room) }
         ensures items { self.new.items ≡ self.old.items }
         ensures kept { self.old.room ≤ self.new.room }
     {
-        self.inner.reserve(more)?;
+        if more <= self.room {
+            return Ok(());
+        }
+        if more > usize::MAX - self.len {
+            return Err(OutOfMemory);
+        }
+        make_room(&mut self.chunks, self.used, more, self.alloc)?;
+        self.room = more;
         Ok(())
     }
 }
@@ -69,7 +98,9 @@ impl<T: ByteKey + Drop> SortedList<T> {
         ensures value { result ≡ count_before T.key text.now self.now.items }
         ensures within { result ≤ length self.now.items }
     {
-        count_before_bytes(self.inner.as_slice(), text)
+        let at = chunk_from(self.chunks.as_slice(), self.used, text);
+        let (front, back) = self.chunks.as_slice().split_at(at);
+        count_all(front) + count_first(back, text)
     }
 
     /// The first element that does not stand before this text.
@@ -77,8 +108,13 @@ impl<T: ByteKey + Drop> SortedList<T> {
         requires { RisesBy T.key self.now.items }
         ensures { option_copied result ≡ find (is_from T.key text.now) self.now.items }
     {
-        let place = self.place(text);
-        self.inner.get(place)
+        let at = chunk_from(self.chunks.as_slice(), self.used, text);
+        if at == self.chunks.len() {
+            return None;
+        }
+        let items = self.chunks[at].as_slice();
+        let place = count_before_bytes(items, text);
+        items.get(place)
     }
 
     /// Puts an element where it stands in the order. Takes no memory.
@@ -88,11 +124,15 @@ impl<T: ByteKey + Drop> SortedList<T> {
         ensures items { self.new.items ≡ put_by T.key item self.old.items }
         ensures room { self.new.room + 1 ≡ self.old.room }
     {
-        let place = self.place(item.key());
-        match self.inner.insert(place, item) {
-            Ok(()) => {}
-            // There is room, so nothing is refused.
-            Err(_) => {}
+        let at = chunk_for(self.chunks.as_slice(), self.used, item.key());
+        self.chunks[at].put(item);
+        let size = self.chunks[at].len();
+        self.used = self.used.max(1);
+        self.len += 1;
+        self.room -= 1;
+        if size == CHUNK_LIMIT {
+            split(&mut self.chunks, at);
+            self.used += 1;
         }
     }
 }
@@ -104,10 +144,21 @@ impl SortedList<OwnedPath> {
         ensures count { result + length self.new.items ≡ length self.old.items }
         ensures room { self.old.room ≤ self.new.room }
     {
-        let before = self.inner.len();
-        self.inner.retain(|entry| {
-            !(entry.owner.name == owner.name && entry.owner.version == owner.version)
-        });
-        before - self.inner.len()
+        let count = drop_from_each(&mut self.chunks, owner);
+        self.used = gather(&mut self.chunks, self.used);
+        self.len -= count;
+        count
+    }
+}
+
+// How many elements of the first chunk stand before this text.
+fn count_first<T: ByteKey>(chunks: &[Chunk<T>], text: &[u8]) -> usize
+    requires { RisesBy T.key (slice_index_or chunks.now 0 []) }
+    ensures value { result ≡ count_before T.key text.now (slice_index_or chunks.now 0 []) }
+    ensures within { result ≤ length (slice_index_or chunks.now 0 []) }
+{
+    match chunks.first() {
+        Some(chunk) => count_before_bytes(chunk.as_slice(), text),
+        None => 0,
     }
 }
