@@ -35,8 +35,9 @@ fn name_text_fault(bytes: &[u8], span: Span) -> Option<FilterFault>
     }
 }
 
+/// The first fault of a node as a filter (opam manual, filters).
 #[cycle(judge)]
-pub(crate) fn filter_fault(node: &Node) -> Option<FilterFault>
+pub fn filter_fault(node: &Node) -> Option<FilterFault>
     ensures { result ≡ (judged node.now).filter }
 {
     match &node.value {
@@ -201,8 +202,9 @@ fn name_fault(node: &Node) -> Option<FilterFault>
     }
 }
 
+/// The first fault of a node as a formula (opam manual, package formulas).
 #[cycle(formula)]
-pub(crate) fn formula_fault(node: &Node) -> Option<FilterFault>
+pub fn formula_fault(node: &Node) -> Option<FilterFault>
     ensures { result ≡ (judged node.now).formula }
 {
     match &node.value {

@@ -38,6 +38,7 @@ pub use formula::{Braces, Formula, Reduced, Test};
 pub use formula_laws::{
     dropped_holds, holding_is_monotone, nothing_is_dropped_inside, reducing_says_the_same,
 };
+pub use judging::{filter_fault, formula_fault};
 pub use meeting::{holds, meets, names};
 pub use opam_syntax::{RelOp, Var};
 pub use reading::{read_filter, read_formula};

@@ -1,9 +1,10 @@
 // The variables that have a value.
 ghost use Rattle.std.specs.FinMap as map;
 ghost use Rattle.std.specs.Option.{option_copied};
-ghost use Rattle.std.specs.Prelude.{◌≡◌, OnErr, OnOk};
+ghost use Rattle.std.specs.Prelude.{◌≡◌, IfOk, OnErr, OnOk};
 
 use crate::VarValue;
+use crate::copies::copy_variable;
 use opam_names::OutOfMemory;
 use opam_syntax::Var;
 use std::alloc::Global;
@@ -43,6 +44,18 @@ impl Vars {
     {
         self.table.insert(var, value)?;
         Ok(())
+    }
+
+    pub fn copy(&self, alloc: Global) -> Result<Vars, OutOfMemory>
+        ensures { IfOk result (λ copy. copy ≡ self.now) }
+    {
+        let mut copy = Vars::empty(alloc);
+        let mut left = self.table.iter();
+        // Of entries with one key the first would count: they are put in from the end.
+        while let Some((var, value)) = left.next_back() {
+            copy.set(copy_variable(alloc, var)?, value.copy(alloc)?)?;
+        }
+        Ok(copy)
     }
 
     /// The value set for just this scope and name: a scope of several packages is not taken apart.
