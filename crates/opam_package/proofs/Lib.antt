@@ -1,0 +1,10 @@
+mod EdgeLaws
+mod FieldSound
+mod FirstFaults
+mod Naming
+mod SafePaths
+mod Slashes
+mod Sound
+mod Told
+mod ToldFirst
+mod Utf8

@@ -1,0 +1,12 @@
+pub mod PackageFaults
+pub mod Views
+pub mod Forms
+pub mod Commands
+pub mod Updates
+pub mod Relatives
+pub mod PartPaths
+pub mod Fields
+pub mod FieldFaults
+pub mod Packages
+pub mod Dependencies
+pub mod PackageLaws
