@@ -1,0 +1,6 @@
+mod Slashes
+mod Told
+mod Parts
+mod FirstFaults
+mod Judged
+mod Excess

@@ -1,0 +1,9 @@
+pub mod Sections
+pub mod WrittenPaths
+pub mod PathGrowth
+pub mod Targets
+pub mod InstallFaults
+pub mod Views
+pub mod Verdicts
+pub mod Judgements
+pub mod Placements

@@ -1,0 +1,19 @@
+//! Install files: which files of a build a package places, and where (opam manual, package definitions: `.install` files).
+#![tactic(auto)]
+
+mod fault;
+mod judging;
+mod limits;
+mod placement;
+mod reading;
+mod sections;
+mod targets;
+mod verdicts;
+mod views;
+mod written_paths;
+
+pub use fault::InstallFault;
+pub use limits::ITEM_LIMIT;
+pub use placement::{Placement, Verdict};
+pub use reading::placements_of;
+pub use sections::{Folder, Layout, Section};

@@ -1,0 +1,37 @@
+// What a value is, without looking into its parts.
+ghost use Rattle.std.specs.Option.{option_copied};
+ghost use Rattle.std.specs.Prelude.{◌≡◌};
+ghost use Rattle.install_sections.specs.Views as views;
+
+use opam_syntax::{Node, Value};
+use std::slice;
+
+/// The bytes of a text.
+pub(crate) fn text_in(node: &Node) -> Option<&[u8]>
+    ensures { option_copied result ≡ views.text_in node.now }
+{
+    match &node.value {
+        Value::Text(bytes) => Some(bytes.as_slice()),
+        _ => None,
+    }
+}
+
+/// The values of a list.
+pub(crate) fn list_in(node: &Node) -> Option<&[Node]>
+    ensures { option_copied result ≡ views.list_in node.now }
+{
+    match &node.value {
+        Value::List(nodes) => Some(nodes.as_slice()),
+        _ => None,
+    }
+}
+
+/// The values of a list, or the one value.
+pub(crate) fn values_of(node: &Node) -> &[Node]
+    ensures { result.now ≡ views.values_of node.now }
+{
+    match list_in(node) {
+        Some(nodes) => nodes,
+        None => slice::from_ref(node),
+    }
+}
