@@ -4,3 +4,6 @@ mod Parts
 mod FirstFaults
 mod Judged
 mod Excess
+mod Below
+mod ItemLaws
+mod FileLaws

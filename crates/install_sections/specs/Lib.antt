@@ -7,3 +7,4 @@ pub mod Views
 pub mod Verdicts
 pub mod Judgements
 pub mod Placements
+pub mod InstallLaws

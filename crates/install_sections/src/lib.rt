@@ -3,6 +3,7 @@
 
 mod fault;
 mod judging;
+mod laws;
 mod limits;
 mod placement;
 mod reading;
@@ -13,6 +14,7 @@ mod views;
 mod written_paths;
 
 pub use fault::InstallFault;
+pub use laws::{files_are_limited, files_stay_below, items_stay_below};
 pub use limits::ITEM_LIMIT;
 pub use placement::{Placement, Verdict};
 pub use reading::placements_of;
