@@ -22,7 +22,7 @@ pub fn truth_word(truth: Truth) -> &'static str {
     }
 }
 
-fn push_var(text: &mut String, var: &Var) -> Result<(), Fault> {
+pub fn push_var(text: &mut String, var: &Var) -> Result<(), Fault> {
     if let Some(scope) = &var.scope {
         text.push_str(scope.as_str())?;
         text.push_str(":")?;

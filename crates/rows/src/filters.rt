@@ -67,7 +67,7 @@ pub fn value(alloc: Global, vars: &Vars, name: &Word) -> Result<String, Fault> {
     }
 }
 
-fn faulty(alloc: Global, fault: FilterFault) -> Result<String, Fault> {
+pub fn faulty(alloc: Global, fault: FilterFault) -> Result<String, Fault> {
     let (what, span) = match fault {
         FilterFault::NotAFilter { span } => ("no filter", span),
         FilterFault::NotAFormula { span } => ("no formula", span),

@@ -13,6 +13,8 @@ mod journal;
 mod lexer;
 mod lists;
 mod names;
+mod package_show;
+mod packages;
 mod paths;
 mod reads;
 mod reports;
@@ -114,6 +116,9 @@ fn answer(alloc: Global, call: &Call, world: &mut World) -> Result<String, Fault
         return Ok(text);
     }
     if let Some(text) = filters::answer(alloc, call, &mut world.vars)? {
+        return Ok(text);
+    }
+    if let Some(text) = packages::answer(alloc, call, &world.vars)? {
         return Ok(text);
     }
     if let Some(text) = variables::answer(alloc, call, &mut world.facts)? {

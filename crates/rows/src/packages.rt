@@ -1,0 +1,271 @@
+// Calls of `opam_package`. The items of a file stand between `;`: a field as its name and its value, a section as its name, `{`
+// and perhaps a field.
+use crate::fault::Fault;
+use crate::filter_show::push_reduced;
+use crate::filters::{faulty, set_of};
+use crate::lexer::Word;
+use crate::names::pkg_of;
+use crate::package_show::{push_command, push_need, push_update};
+use crate::script::Call;
+use crate::show::{answered, plain, push_quoted};
+use crate::trees::{read_tree, syntax_word};
+use indexmap::IndexMap;
+use opam_filter::{Reduced, Vars};
+use opam_names::{Items, Name, Text};
+use opam_package::{
+    Command, EnvUpdate, Need, Package, PackageFault, edges, forbids, needs, package_of,
+};
+use opam_syntax::{File, Item, Key, Span};
+use std::alloc::Global;
+
+pub fn answer(alloc: Global, call: &Call, vars: &Vars) -> Result<Option<String>, Fault> {
+    let answer = match (call.name.as_str(), call.words.as_slice()) {
+        ("package_of", [pkg, part, items @ ..]) => show(alloc, pkg, part, items, vars),
+        ("Package::copy", [pkg, part, items @ ..]) => show_copy(alloc, pkg, part, items, vars),
+        ("edges", [set, pkg, items @ ..]) => show_edges(alloc, set, pkg, items, vars),
+        ("needs", [set, pkg, items @ ..]) => show_needs(alloc, set, pkg, items, vars),
+        ("forbids", [other, pkg, items @ ..]) => forbid(alloc, other, pkg, items, vars),
+        _ => return Ok(None),
+    };
+    Ok(Some(answer?))
+}
+
+// The words up to the next `;`, and those after it.
+fn first_item(words: &[Word]) -> (&[Word], &[Word]) {
+    match words.iter().position(|word| word.is(";")) {
+        Some(at) => {
+            let (item, rest) = words.split_at(at);
+            match rest {
+                [_, later @ ..] => (item, later),
+                [] => (item, rest),
+            }
+        }
+        None => (words, &[]),
+    }
+}
+
+fn add_item(alloc: Global, file: &mut File, words: &[Word]) -> Result<(), Fault> {
+    let (name, item) = match words {
+        [name, open] if open.is("{") => (name, Item::Section(IndexMap::new(alloc))),
+        [name, open, field, tree @ ..] if open.is("{") => {
+            let mut fields = IndexMap::new(alloc);
+            fields.insert(syntax_word(alloc, field.text()?)?, read_tree(alloc, tree)?)?;
+            (name, Item::Section(fields))
+        }
+        [name, tree @ ..] => (name, Item::Field(read_tree(alloc, tree)?)),
+        [] => return Err(Fault::Line("an item has no name")),
+    };
+    let key = Key {
+        name: syntax_word(alloc, name.text()?)?,
+        section: matches!(item, Item::Section(_)),
+        label: None,
+    };
+    file.items.insert(key, item)?;
+    Ok(())
+}
+
+fn file_of(alloc: Global, words: &[Word]) -> Result<File, Fault> {
+    let mut file = File {
+        items: IndexMap::new(alloc),
+        places: sqlite_items::Items::new(alloc),
+    };
+    let mut left = words;
+    for _ in words {
+        if left.is_empty() {
+            return Ok(file);
+        }
+        let (item, later) = first_item(left);
+        add_item(alloc, &mut file, item)?;
+        left = later;
+    }
+    Ok(file)
+}
+
+fn package(
+    alloc: Global,
+    pkg: &Word,
+    items: &[Word],
+    vars: &Vars,
+) -> Result<Result<Package, PackageFault>, Fault> {
+    let pkg = pkg_of(alloc, pkg)?;
+    Ok(package_of(alloc, &file_of(alloc, items)?, &pkg, vars))
+}
+
+// A package without a fault.
+fn sound(alloc: Global, pkg: &Word, items: &[Word], vars: &Vars) -> Result<Package, Fault> {
+    match package(alloc, pkg, items, vars)? {
+        Ok(package) => Ok(package),
+        Err(PackageFault::Memory) => Err(Fault::Memory),
+        Err(_) => Err(Fault::Line("the file has a fault")),
+    }
+}
+
+fn show(
+    alloc: Global,
+    pkg: &Word,
+    part: &Word,
+    items: &[Word],
+    vars: &Vars,
+) -> Result<String, Fault> {
+    match package(alloc, pkg, items, vars)? {
+        Ok(package) => part_of(alloc, &package, part),
+        Err(fault) => refused(alloc, fault),
+    }
+}
+
+fn show_copy(
+    alloc: Global,
+    pkg: &Word,
+    part: &Word,
+    items: &[Word],
+    vars: &Vars,
+) -> Result<String, Fault> {
+    let copy = sound(alloc, pkg, items, vars)?.copy(alloc)?;
+    part_of(alloc, &copy, part)
+}
+
+fn refused(alloc: Global, fault: PackageFault) -> Result<String, Fault> {
+    let (what, span) = match fault {
+        PackageFault::Filter(fault) => return faulty(alloc, fault),
+        PackageFault::WrongKind { span } => ("the wrong kind", span),
+        PackageFault::NotText { span } => ("no text", span),
+        PackageFault::Mismatch { span } => ("another package", span),
+        PackageFault::OpamVersion { span } => ("another format", span),
+        PackageFault::TooMany { span } => ("too many", span),
+        PackageFault::EnvOperator { span } => ("no update", span),
+        PackageFault::Unsafe { span } => ("unsafe", span),
+        PackageFault::Syntax(_) => return plain(alloc, "no file"),
+        PackageFault::Memory => return Err(Fault::Memory),
+    };
+    let Span { start, end } = span;
+    Ok(format!(in alloc; "{what} at {start}-{end}")?)
+}
+
+fn part_of(alloc: Global, package: &Package, part: &Word) -> Result<String, Fault> {
+    match part.text()? {
+        "depends" => all_needs(alloc, package.items.as_slice()),
+        "depopts" => all_atoms(alloc, package.depopts.as_slice()),
+        "conflicts" => all_atoms(alloc, package.conflicts.as_slice()),
+        "classes" => all_texts(alloc, package.classes.as_slice()),
+        "available" => answered(alloc, package.available),
+        "refused" => all_texts(alloc, package.refused.as_slice()),
+        "build" => all_commands(alloc, package.commands.as_slice()),
+        "setenv" => all_updates(alloc, package.exports.as_slice()),
+        "build-env" => all_updates(alloc, package.build_env.as_slice()),
+        "substs" => all_paths(alloc, package),
+        "source" => one_text(alloc, &package.source),
+        "synopsis" => one_text(alloc, &package.synopsis),
+        _ => Err(Fault::Line("a package has no such part")),
+    }
+}
+
+fn one_text(alloc: Global, text: &Option<Text>) -> Result<String, Fault> {
+    match text {
+        None => plain(alloc, "none"),
+        Some(text) => crate::show::quoted(alloc, text.as_str().as_bytes()),
+    }
+}
+
+fn all_texts(alloc: Global, texts: &[Text]) -> Result<String, Fault> {
+    let mut shown = plain(alloc, "[")?;
+    for text in texts {
+        push_quoted(&mut shown, text.as_str().as_bytes())?;
+    }
+    shown.push_str("]")?;
+    Ok(shown)
+}
+
+fn all_paths(alloc: Global, package: &Package) -> Result<String, Fault> {
+    let mut shown = plain(alloc, "[")?;
+    for path in package.substs.as_slice() {
+        push_quoted(&mut shown, path.as_str().as_bytes())?;
+    }
+    shown.push_str("]")?;
+    Ok(shown)
+}
+
+fn all_atoms(alloc: Global, atoms: &[Reduced]) -> Result<String, Fault> {
+    let mut shown = plain(alloc, "[")?;
+    for atom in atoms {
+        push_reduced(&mut shown, atom)?;
+        shown.push_str(";")?;
+    }
+    shown.push_str("]")?;
+    Ok(shown)
+}
+
+fn all_needs(alloc: Global, needs: &[Need]) -> Result<String, Fault> {
+    let mut shown = plain(alloc, "[")?;
+    for need in needs {
+        push_need(&mut shown, need)?;
+    }
+    shown.push_str("]")?;
+    Ok(shown)
+}
+
+fn all_commands(alloc: Global, commands: &[Command]) -> Result<String, Fault> {
+    let mut shown = plain(alloc, "[")?;
+    for command in commands {
+        push_command(&mut shown, command)?;
+    }
+    shown.push_str("]")?;
+    Ok(shown)
+}
+
+fn all_updates(alloc: Global, updates: &[EnvUpdate]) -> Result<String, Fault> {
+    let mut shown = plain(alloc, "[")?;
+    for update in updates {
+        push_update(&mut shown, update)?;
+    }
+    shown.push_str("]")?;
+    Ok(shown)
+}
+
+fn all_names(alloc: Global, names: &Items<Name>) -> Result<String, Fault> {
+    let mut shown = plain(alloc, "[")?;
+    for name in names.as_slice() {
+        shown.push_str(" ")?;
+        shown.push_str(name.as_str())?;
+    }
+    shown.push_str(" ]")?;
+    Ok(shown)
+}
+
+fn show_edges(
+    alloc: Global,
+    set: &Word,
+    pkg: &Word,
+    items: &[Word],
+    vars: &Vars,
+) -> Result<String, Fault> {
+    let package = sound(alloc, pkg, items, vars)?;
+    all_names(
+        alloc,
+        &edges(alloc, &package, set_of(alloc, set)?.as_slice())?,
+    )
+}
+
+fn show_needs(
+    alloc: Global,
+    set: &Word,
+    pkg: &Word,
+    items: &[Word],
+    vars: &Vars,
+) -> Result<String, Fault> {
+    let package = sound(alloc, pkg, items, vars)?;
+    all_names(
+        alloc,
+        &needs(alloc, &package, set_of(alloc, set)?.as_slice())?,
+    )
+}
+
+fn forbid(
+    alloc: Global,
+    other: &Word,
+    pkg: &Word,
+    items: &[Word],
+    vars: &Vars,
+) -> Result<String, Fault> {
+    let package = sound(alloc, pkg, items, vars)?;
+    answered(alloc, forbids(&package, &pkg_of(alloc, other)?))
+}
