@@ -20,3 +20,4 @@ pub mod Parsing
 pub mod ParsingEntries
 pub mod Assembly
 pub mod Reading
+pub mod Lookup

@@ -9,6 +9,7 @@ mod gaps;
 mod laws;
 mod lexer;
 mod limits;
+mod lookup;
 mod parsing;
 mod printing;
 mod printing_laws;
@@ -28,6 +29,7 @@ pub use laws::{
     files_have_no_fault, one_derivation, one_fault_for_bytes, one_tree_for_bytes, spans_are_within,
 };
 pub use limits::{FILE_LIMIT, NESTING_LIMIT};
+pub use lookup::text_of;
 pub use printing::print_file;
 pub use printing_laws::printing_reads_back;
 pub use reading::read_file;

@@ -1,16 +1,21 @@
-// Calls of `read_file`. A file is shown by its items, each with its place, and a value as `print_file` takes it: after its
+// Calls of `read_file`, of a file's `field`, and of `text_of`. A file is shown by its items, each with its place, and a value as `print_file` takes it: after its
 // parts, and with the place where it stands, as `x @3-4`. Of faults only a doubled name is told with its place.
 use crate::fault::Fault;
 use crate::script::Call;
-use crate::show::{plain, push_quoted};
+use crate::show::{plain, push_quoted, quoted};
 use opam_syntax::{
     EnvOp, FILE_LIMIT, File, Item, Key, Node, RelOp, Span, SyntaxFault, Value, Var, read_file,
+    text_of,
 };
 use std::alloc::Global;
 
 pub fn answer(alloc: Global, call: &Call) -> Result<Option<String>, Fault> {
     match (call.name.as_str(), call.words.as_slice()) {
         ("read_file", [text]) => Ok(Some(read(alloc, text.bytes.as_slice())?)),
+        ("field", [text, name]) => Ok(Some(field(alloc, text.bytes.as_slice(), name.text()?)?)),
+        ("text_of", [text, start, end]) => {
+            Ok(Some(text_between(alloc, text.bytes.as_slice(), start.number()?, end.number()?)?))
+        }
         _ => Ok(None),
     }
 }
@@ -25,6 +30,35 @@ fn read(alloc: Global, bytes: &[u8]) -> Result<String, Fault> {
         Err(SyntaxFault::Memory) => Err(Fault::Memory),
         Err(_) => plain(alloc, "no file"),
     }
+}
+
+// The value of a field of a file.
+fn field(alloc: Global, bytes: &[u8], name: &str) -> Result<String, Fault> {
+    if bytes.len() > FILE_LIMIT {
+        return Err(Fault::Line("the text is too long"));
+    }
+    let Ok(file) = read_file(alloc, bytes) else {
+        return plain(alloc, "no file");
+    };
+    match file.field(name) {
+        Some(value) => {
+            let mut text = String::new(alloc);
+            push_node(&mut text, value)?;
+            Ok(text)
+        }
+        None => plain(alloc, "none"),
+    }
+}
+
+fn text_between(alloc: Global, bytes: &[u8], start: u64, end: u64) -> Result<String, Fault> {
+    if start > end || end > bytes.len() as u64 || end > u64::from(u32::MAX) {
+        return Err(Fault::Line("the span is not within the text"));
+    }
+    let span = Span {
+        start: start as u32,
+        end: end as u32,
+    };
+    quoted(alloc, text_of(bytes, span))
 }
 
 fn show_file(alloc: Global, file: &File) -> Result<String, Fault> {
