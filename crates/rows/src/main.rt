@@ -21,6 +21,7 @@ mod reports;
 mod runs;
 mod script;
 mod show;
+mod spellings;
 #[cfg(test)]
 mod tests;
 mod trees;
@@ -134,6 +135,9 @@ fn answer(alloc: Global, call: &Call, world: &mut World) -> Result<String, Fault
         return Ok(text);
     }
     if let Some(text) = journal::answer(alloc, call, &mut world.devices)? {
+        return Ok(text);
+    }
+    if let Some(text) = spellings::answer(alloc, call)? {
         return Ok(text);
     }
     if let Some(text) = reports::answer(alloc, call)? {
