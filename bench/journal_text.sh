@@ -1,0 +1,92 @@
+#!/bin/sh
+# How fast a record of 256 MiB is read, and how much memory that takes beside it: a record of one file, and one of many
+# files of 4 KiB. The reading is proved and built in a copy, which takes minutes. Usage: bench/journal_text.sh [MEBIBYTES]
+set -eu
+top=$(cd "$(dirname "$0")/.." && pwd)
+size=${1:-256}
+
+for tool in rt python3; do
+    if ! command -v "$tool" >/dev/null 2>&1; then
+        echo "bench/journal_text.sh: skipped, since $tool is missing"
+        exit 0
+    fi
+done
+
+work=$(mktemp -d)
+trap 'rm -rf "$work"' EXIT
+mkdir -p "$work/crates/reading/src"
+for crate in opam_names path_order journal_text; do
+    cp -R "$top/crates/$crate" "$work/crates/$crate"
+done
+printf 'opam_names:\npath_order: opam_names\njournal_text: opam_names path_order\nreading: journal_text\n' >"$work/crates.txt"
+
+cat >"$work/crates/reading/src/main.rt" <<'RATTLE'
+//! Reads the record in the file `record`, and prints whether it is one and the nanoseconds that this took.
+#![tactic(auto)]
+
+use journal_text::decode;
+use std::fs;
+use std::io;
+use std::time::Instant;
+
+fn main(rt: HostRuntime) -> io::Result<()> {
+    let bytes = fs::read(&rt, "record")?;
+    let start = Instant::now(&rt)?;
+    let found = decode(rt.alloc(), bytes.as_slice());
+    let nanos = start.elapsed(&rt)?.as_nanos();
+    let is_record = matches!(found, Ok(Some(_)));
+    println!(rt; "{is_record} {nanos}")?;
+    Ok(())
+}
+RATTLE
+
+printf 'OPAMREC2\004' >"$work/crates/reading/record"
+(cd "$work/crates/reading" && rt run) >"$work/first" 2>"$work/log" || {
+    echo "bench/journal_text.sh: the reading is not built:" >&2
+    tail -n 5 "$work/log" >&2
+    exit 1
+}
+
+cd "$work"
+python3 - "$work/crates/reading/out/reading" "$size" <<'PYTHON'
+import os
+import statistics
+import struct
+import subprocess
+import sys
+
+program = sys.argv[1]
+whole = int(sys.argv[2]) << 20
+
+
+def record(count):
+    each = whole // count
+    parts = [b"OPAMREC2\x01", b"\x00\x01a\x00\x011", struct.pack(">I", 0), struct.pack(">I", count)]
+    content = bytes(each)
+    for k in range(count):
+        path = b"lib/a/%07d" % k
+        parts.append(b"\x00" + struct.pack(">H", len(path)) + path + struct.pack(">I", each) + content)
+    return b"".join(parts)
+
+
+def run():
+    child = subprocess.Popen([program], stdout=subprocess.PIPE, text=True)
+    answer, nanos = child.stdout.read().split()
+    _, status, usage = os.wait4(child.pid, 0)
+    if status or answer != "true":
+        sys.exit("bench/journal_text.sh: the record is not read")
+    return int(nanos), usage.ru_maxrss * 1024
+
+
+with open("record", "wb") as file:
+    file.write(b"OPAMREC2\x04")
+_, empty = run()
+for count in (1, whole // 4096):
+    data = record(count)
+    with open("record", "wb") as file:
+        file.write(data)
+    runs = [run() for _ in range(5)]
+    speed = len(data) / (statistics.median(nanos for nanos, _ in runs) / 1e9)
+    beside = (max(most for _, most in runs) - empty - len(data)) / len(data)
+    print(f"{len(data)} bytes in {count} files: {speed / 1e6:.0f} MB/s, {beside:.2f} times its size in memory beside it")
+PYTHON
