@@ -7,3 +7,5 @@ mod Excess
 mod Below
 mod ItemLaws
 mod FileLaws
+mod Lengths
+mod Refused

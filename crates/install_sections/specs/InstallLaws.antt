@@ -1,8 +1,10 @@
 -- Laws of install files.
-use Rattle.std.specs.Prelude.{◌≡◌, ℕ, ◌≤◌, List, length, false, codes, bytes_eq, IsTrue}
+use Rattle.std.specs.Prelude.{◌≡◌, ℕ, ◌≤◌, List, length, false, codes, bytes_eq, nat_le, IsTrue}
 use Rattle.std.specs.List.{All}
 use Rattle.std.specs.declared.option.Option.TheVariants.{None, Some}
-use Rattle.opam_names.specs.Paths.{is_above, is_relative_path}
+use Rattle.opam_names.specs.Names.{IsName}
+use Rattle.opam_names.specs.Paths.{is_above, is_relative_path, joined}
+use Rattle.opam_names.specs.declared.limits.TheConstants.{PATH_LIMIT}
 use Rattle.opam_syntax.specs.declared.file.File.{File}
 use Rattle.opam_syntax.specs.declared.tree.Node.{Node}
 use Rattle.install_sections.specs.declared.limits.TheConstants.{ITEM_LIMIT}
@@ -12,7 +14,9 @@ use Rattle.install_sections.specs.declared.sections.Section.{Section}
 use Rattle.install_sections.specs.InstallFaults.{first_fault}
 use Rattle.install_sections.specs.Placements.{faults_in, placements_in}
 use Rattle.install_sections.specs.Sections.{folder_of, section_of}
+use Rattle.install_sections.specs.Targets.{default_folder}
 use Rattle.install_sections.specs.Verdicts.{verdict}
+use Rattle.install_sections.specs.WrittenPaths.{last_part}
 
 -- the paths of a placement are paths, none of whose parts is `..`; the file lies below this folder, and neither is nor lies in the
 -- folder of the switch itself
@@ -37,3 +41,18 @@ FilesStayBelow = (name : List ℕ) (file : File)
 -- an install file without a fault places no more files than the limit
 abbrev pub FilesAreLimited : Type 0
 FilesAreLimited = (name : List ℕ) (file : File) → first_fault (faults_in name file) ≡ None → length (placements_in name file) ≤ ITEM_LIMIT
+
+-- the whole path of an item with a destination
+abbrev pub target_path : Section → List ℕ → List ℕ → List ℕ
+target_path section name below = joined (folder_of section name) below
+
+-- and of one without
+abbrev pub kept_path : Section → List ℕ → List ℕ → List ℕ
+kept_path section name source = joined (default_folder section name (last_part source)) (last_part source)
+
+-- of a valid name and texts that are not unsafe, a whole path is refused exactly where it is longer than the limit
+pub record OnlyLengthIsRefused : Type 0 where
+  pub targeted : (section : Section) (name below : List ℕ) → IsName name → IsTrue (is_relative_path below)
+      → is_relative_path (target_path section name below) ≡ nat_le (length (target_path section name below)) PATH_LIMIT
+  pub kept : (section : Section) (name source : List ℕ) → IsName name → IsTrue (is_relative_path source)
+      → is_relative_path (kept_path section name source) ≡ nat_le (length (kept_path section name source)) PATH_LIMIT

@@ -8,3 +8,4 @@ pub mod Verdicts
 pub mod Judgements
 pub mod Placements
 pub mod InstallLaws
+pub mod Readings

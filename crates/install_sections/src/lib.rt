@@ -14,8 +14,8 @@ mod views;
 mod written_paths;
 
 pub use fault::InstallFault;
-pub use laws::{files_are_limited, files_stay_below, items_stay_below};
+pub use laws::{files_are_limited, files_stay_below, items_stay_below, only_length_is_refused};
 pub use limits::ITEM_LIMIT;
 pub use placement::{Placement, Verdict};
-pub use reading::placements_of;
+pub use reading::{placements_of, read_install};
 pub use sections::{Folder, Layout, Section};

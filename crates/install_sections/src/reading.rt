@@ -1,17 +1,18 @@
 // Install files: what they place, and what is wrong with them.
-ghost use Rattle.std.specs.Prelude.{[], ◌≡◌, ◌∷◌, IfErr, IfOk, OnOk};
+ghost use Rattle.std.specs.Prelude.{[], ◌≡◌, ◌≤◌, ◌∷◌, IfErr, IfOk, OnOk, length};
 ghost use Rattle.std.specs.declared.option.Option.TheVariants.{None};
 ghost use Rattle.opam_syntax.specs.Trees.{contents_of, items_of};
 ghost use Rattle.install_sections.specs.InstallFaults.{IsFirstOf, first_fault};
 ghost use Rattle.install_sections.specs.Placements as placements;
 ghost use Rattle.install_sections.specs.Placements.{excess_faults, faults_in, items_in, placements_in};
+ghost use Rattle.install_sections.specs.Readings.{IsInstallText, IsRefusedInstall};
 
 use crate::judging::{judge_file, sooner};
 use crate::limits::ITEM_LIMIT;
 use crate::views::values_of;
 use crate::{InstallFault, Placement, Section};
 use opam_names::{Items, Name};
-use opam_syntax::{File, Item, Node};
+use opam_syntax::{FILE_LIMIT, File, Item, Node, SyntaxFault, read_file};
 use std::alloc::Global;
 
 // The values of a field that is a section.
@@ -56,5 +57,23 @@ pub fn placements_of(
     match sooner(judgement.fault, excess_fault(file)) {
         Some(fault) => Err(fault),
         None => Ok(judgement.placements),
+    }
+}
+
+/// The files that the text of an install file places, for the package of this name. `Syntax` comes exactly where the bytes are the
+/// text of no file.
+pub fn read_install(
+    alloc: Global,
+    bytes: &[u8],
+    name: &Name,
+) -> Result<Items<Placement>, InstallFault>
+    requires { length bytes.now ≤ FILE_LIMIT }
+    ensures ok { IfOk result (IsInstallText bytes.now name.now) }
+    ensures err { IfErr result (IsRefusedInstall bytes.now name.now) }
+{
+    match read_file(alloc, bytes) {
+        Ok(file) => placements_of(alloc, &file, name),
+        Err(SyntaxFault::Memory) => Err(InstallFault::Memory),
+        Err(fault) => Err(InstallFault::Syntax(fault)),
     }
 }
