@@ -13,6 +13,7 @@ mod journal;
 mod lexer;
 mod lists;
 mod names;
+mod owners;
 mod package_show;
 mod packages;
 mod paths;
@@ -32,6 +33,7 @@ mod writes;
 use devices::Devices;
 use fault::Fault;
 use opam_filter::Vars;
+use owner_map::Owners;
 use package_vars::Facts;
 use script::{Call, read_call};
 use std::alloc::{AllocError, Global};
@@ -47,6 +49,7 @@ fn main(rt: HostRuntime) -> io::Result<()> {
         vars: Vars::empty(alloc),
         facts: no_facts(alloc),
         devices: Devices::new(alloc),
+        owners: Owners::empty(alloc),
     };
     let mut out = BufWriter::new(alloc, io::writer(&rt))?;
     for line in BufReader::new(alloc, rt.reader())?.split(alloc, b'\n') {
@@ -62,6 +65,7 @@ struct World {
     vars: Vars,
     facts: Facts,
     devices: Devices,
+    owners: Owners,
 }
 
 // What stands for a line: blank lines and comments stand for themselves, and a call is followed by its answer.
@@ -141,6 +145,9 @@ fn answer(alloc: Global, call: &Call, world: &mut World) -> Result<String, Fault
         return Ok(text);
     }
     if let Some(text) = reports::answer(alloc, call)? {
+        return Ok(text);
+    }
+    if let Some(text) = owners::answer(alloc, call, &mut world.owners)? {
         return Ok(text);
     }
     Err(Fault::Line("there is none of this name with so many words"))

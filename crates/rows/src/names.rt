@@ -50,7 +50,13 @@ pub fn answer(alloc: Global, call: &Call) -> Result<Option<String>, Fault> {
 pub fn bytes_of(word: &Word) -> &[u8]
     ensures { length result.now < 2 ^ 32 }
 {
-    let bytes = word.bytes.as_slice();
+    cut(word.bytes.as_slice())
+}
+
+/// Nothing of bytes that are too many for a call.
+pub fn cut(bytes: &[u8]) -> &[u8]
+    ensures { length result.now < 2 ^ 32 }
+{
     if bytes.len() < 4294967296 { bytes } else { b"" }
 }
 
