@@ -5,6 +5,7 @@ mod Naming
 mod SafePaths
 mod Slashes
 mod Sound
+mod TextFaults
 mod Told
 mod ToldFirst
 mod Utf8

@@ -10,3 +10,4 @@ pub mod FieldFaults
 pub mod Packages
 pub mod Dependencies
 pub mod PackageLaws
+pub mod PackageTexts

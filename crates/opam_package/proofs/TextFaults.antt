@@ -1,0 +1,50 @@
+-- A reading of bytes by the reading of their file.
+use Rattle.std.proofs.Common.{◌≡◌, ℕ, List, [], subst, sym}
+use Rattle.std.specs.Result.{IfErr, IfOk, OnOk}
+use Rattle.std.specs.declared.result.Result.{Result}
+use Rattle.std.specs.declared.result.Result.TheVariants.{Ok, Err}
+use Rattle.opam_names.specs.declared.packages.Pkg.{Pkg}
+use Rattle.opam_syntax.specs.Reading.{IsDoubledWhereTold, IsRefused}
+use Rattle.opam_syntax.specs.Trees.{IsTextOf, items_of}
+use Rattle.opam_syntax.specs.declared.fault.SyntaxFault.{SyntaxFault}
+use Rattle.opam_syntax.specs.declared.fault.SyntaxFault.TheVariants as syntax
+use Rattle.opam_syntax.specs.declared.file.File.{File}
+use Rattle.opam_filter.specs.Variables.{Values}
+use Rattle.opam_package.specs.declared.fault.PackageFault.{PackageFault}
+use Rattle.opam_package.specs.declared.fault.PackageFault.TheVariants.{Memory}
+use Rattle.opam_package.specs.declared.package.Package.{Package}
+use Rattle.opam_package.specs.FieldFaults.{file_faults}
+use Rattle.opam_package.specs.PackageFaults.{IsFirstOf, first_fault}
+use Rattle.opam_package.specs.Packages.{package_in}
+use Rattle.opam_package.specs.PackageTexts.{IsPackageFault, IsPackageText, no_memory, no_file, faulty, told_syntax}
+
+-- a fault of the file
+pub of_file : (bytes : List ℕ) (pkg : Pkg) (file : File) (fault : PackageFault) → IsTextOf bytes file
+    → IsFirstOf (file_faults pkg (items_of file)) fault → IsPackageFault bytes pkg fault
+of_file bytes pkg file Memory text is = no_memory
+of_file bytes pkg file fault text is = faulty text is
+
+-- a package of the file
+pub read_ok : (bytes : List ℕ) (pkg : Pkg) (globals : Values) (file : File) (r : Result Package PackageFault) → IsTextOf bytes file
+    → OnOk r (file_faults pkg (items_of file) ≡ []) → IfOk r (λ found. found ≡ package_in pkg globals (items_of file))
+    → IfOk r (λ found. IsPackageText bytes pkg globals found)
+read_ok bytes pkg globals file (Ok found) text sound read = record { file = file; text = text; sound = sound; read = read }
+read_ok bytes pkg globals file (Err fault) text sound read = tt
+
+pub read_err : (bytes : List ℕ) (pkg : Pkg) (file : File) (r : Result Package PackageFault) → IsTextOf bytes file
+    → IfErr r (λ fault. IsFirstOf (file_faults pkg (items_of file)) fault) → IfErr r (λ fault. IsPackageFault bytes pkg fault)
+read_err bytes pkg file (Ok found) text is = tt
+read_err bytes pkg file (Err fault) text is = of_file bytes pkg file fault text is
+
+-- a fault of the syntax
+pub of_syntax : (bytes : List ℕ) (pkg : Pkg) (fault : SyntaxFault) → IsRefused bytes fault → IsDoubledWhereTold bytes fault → IsPackageFault bytes pkg (told_syntax fault)
+of_syntax bytes pkg syntax.Memory refused doubled = no_memory
+of_syntax bytes pkg (syntax.Ended at) refused doubled = no_file (λ e. cc) refused doubled
+of_syntax bytes pkg (syntax.Stray at) refused doubled = no_file (λ e. cc) refused doubled
+of_syntax bytes pkg (syntax.Deep at) refused doubled = no_file (λ e. cc) refused doubled
+of_syntax bytes pkg (syntax.Doubled at) refused doubled = no_file (λ e. cc) refused doubled
+
+pub told_so : (bytes : List ℕ) (pkg : Pkg) (fault : SyntaxFault) (told : PackageFault) → told ≡ told_syntax fault → IsRefused bytes fault → IsDoubledWhereTold bytes fault
+    → IsPackageFault bytes pkg told
+told_so bytes pkg fault told is refused doubled =
+    let P : PackageFault → Type 0 = λ f. IsPackageFault bytes pkg f in subst P (sym is) (of_syntax bytes pkg fault refused doubled)
