@@ -44,6 +44,7 @@ pub use opam_syntax::{RelOp, Var};
 pub use reading::{read_filter, read_formula};
 pub use reducing::reduce;
 pub use rising::rises;
+pub use scopes::value_at;
 pub use separating::atoms;
 pub use truth::{Truth, VarValue};
 pub use value_laws::{asked_is_enough, names_rise, texts_are_cut};

@@ -13,7 +13,7 @@ use opam_syntax::Var;
 use std::alloc::Global;
 
 /// What a variable is.
-pub(crate) fn value_at(
+pub fn value_at(
     alloc: Global,
     vars: &Vars,
     variable: &Var,
