@@ -1,0 +1,3 @@
+pub mod JobNames
+pub mod Environments
+pub mod Jobs
