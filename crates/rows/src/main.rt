@@ -9,6 +9,7 @@ mod fault;
 mod files;
 mod filter_show;
 mod filters;
+mod installs;
 mod journal;
 mod lexer;
 mod lists;
@@ -121,6 +122,9 @@ fn answer(alloc: Global, call: &Call, world: &mut World) -> Result<String, Fault
         return Ok(text);
     }
     if let Some(text) = filters::answer(alloc, call, &mut world.vars)? {
+        return Ok(text);
+    }
+    if let Some(text) = installs::answer(alloc, call)? {
         return Ok(text);
     }
     if let Some(text) = packages::answer(alloc, call, &world.vars)? {

@@ -1,0 +1,95 @@
+// Calls of `install_sections`. Up to eight files are shown, of more their number.
+use crate::fault::Fault;
+use crate::lexer::Word;
+use crate::names::name_of;
+use crate::script::Call;
+use crate::show::{plain, push_quoted};
+use install_sections::{InstallFault, Layout, Placement, Section, read_install};
+use opam_syntax::{FILE_LIMIT, Span, SyntaxFault};
+use std::alloc::Global;
+
+/// More files are counted.
+const SHOWN: usize = 8;
+
+pub fn answer(alloc: Global, call: &Call) -> Result<Option<String>, Fault> {
+    match (call.name.as_str(), call.words.as_slice()) {
+        ("Section::named", [name]) => Ok(Some(show_section(alloc, name)?)),
+        ("read_install", [name, text]) => Ok(Some(read(alloc, name, text.bytes.as_slice())?)),
+        _ => Ok(None),
+    }
+}
+
+fn show_section(alloc: Global, name: &Word) -> Result<String, Fault> {
+    let Some(section) = Section::named(name.text()?) else {
+        return plain(alloc, "none");
+    };
+    let folder = section.folder.as_str();
+    let layout = match section.layout {
+        Layout::Own => "own",
+        Layout::Shared => "shared",
+        Layout::Pages => "pages",
+    };
+    let exec = if section.exec { " executable" } else { "" };
+    Ok(format!(in alloc; "{folder} {layout}{exec}")?)
+}
+
+fn read(alloc: Global, name: &Word, bytes: &[u8]) -> Result<String, Fault> {
+    if bytes.len() > FILE_LIMIT {
+        return Err(Fault::Line("the text is too long"));
+    }
+    match read_install(alloc, bytes, &name_of(alloc, name)?) {
+        Ok(placements) => show_files(alloc, placements.as_slice()),
+        Err(fault) => show_fault(alloc, fault),
+    }
+}
+
+fn show_files(alloc: Global, placements: &[Placement]) -> Result<String, Fault> {
+    let count = placements.len();
+    if count > SHOWN {
+        return Ok(format!(in alloc; "{count} files")?);
+    }
+    if count == 0 {
+        return plain(alloc, "nothing");
+    }
+    let mut text = String::new(alloc);
+    for placement in placements {
+        push_file(&mut text, placement)?;
+    }
+    Ok(text)
+}
+
+fn push_file(text: &mut String, placement: &Placement) -> Result<(), Fault> {
+    if !text.is_empty() {
+        text.push_str(", ")?;
+    }
+    if placement.optional {
+        text.push_str("optional ")?;
+    }
+    push_quoted(text, placement.src.as_str().as_bytes())?;
+    text.push_str(" to ")?;
+    push_quoted(text, placement.dst.as_str().as_bytes())?;
+    if placement.exec {
+        text.push_str(" executable")?;
+    }
+    Ok(())
+}
+
+fn show_fault(alloc: Global, fault: InstallFault) -> Result<String, Fault> {
+    match fault {
+        InstallFault::Syntax(SyntaxFault::Doubled { at }) => {
+            Ok(format!(in alloc; "doubled at {at}")?)
+        }
+        InstallFault::Syntax(_) => plain(alloc, "no file"),
+        InstallFault::UnknownSection { span } => show_at(alloc, "unknown section", span),
+        InstallFault::Misc { span } => show_at(alloc, "misc", span),
+        InstallFault::NotAnItem { span } => show_at(alloc, "not an item", span),
+        InstallFault::Unsafe { span } => show_at(alloc, "unsafe", span),
+        InstallFault::TooMany { span } => show_at(alloc, "too many", span),
+        InstallFault::Memory => Err(Fault::Memory),
+    }
+}
+
+fn show_at(alloc: Global, what: &str, span: Span) -> Result<String, Fault> {
+    let (start, end) = (span.start, span.end);
+    Ok(format!(in alloc; "{what} at {start}-{end}")?)
+}
