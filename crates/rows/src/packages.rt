@@ -13,15 +13,17 @@ use indexmap::IndexMap;
 use opam_filter::{Reduced, Vars};
 use opam_names::{Items, Name, Text};
 use opam_package::{
-    Command, EnvUpdate, Need, Package, PackageFault, edges, forbids, needs, package_of,
+    Command, EnvUpdate, Need, OPAM_LIMIT, Package, PackageFault, edges, forbids, needs, package_of,
+    read_package,
 };
-use opam_syntax::{File, Item, Key, Span};
+use opam_syntax::{File, Item, Key, Span, SyntaxFault};
 use std::alloc::Global;
 
 pub fn answer(alloc: Global, call: &Call, vars: &Vars) -> Result<Option<String>, Fault> {
     let answer = match (call.name.as_str(), call.words.as_slice()) {
         ("package_of", [pkg, part, items @ ..]) => show(alloc, pkg, part, items, vars),
         ("Package::copy", [pkg, part, items @ ..]) => show_copy(alloc, pkg, part, items, vars),
+        ("read_package", [pkg, part, text]) => read(alloc, pkg, part, text, vars),
         ("edges", [set, pkg, items @ ..]) => show_edges(alloc, set, pkg, items, vars),
         ("needs", [set, pkg, items @ ..]) => show_needs(alloc, set, pkg, items, vars),
         ("forbids", [other, pkg, items @ ..]) => forbid(alloc, other, pkg, items, vars),
@@ -113,6 +115,18 @@ fn show(
     }
 }
 
+// The same of the text of an opam file.
+fn read(alloc: Global, pkg: &Word, part: &Word, text: &Word, vars: &Vars) -> Result<String, Fault> {
+    let bytes = text.bytes.as_slice();
+    if bytes.len() > OPAM_LIMIT {
+        return Err(Fault::Line("the text is too long"));
+    }
+    match read_package(alloc, bytes, &pkg_of(alloc, pkg)?, vars) {
+        Ok(package) => part_of(alloc, &package, part),
+        Err(fault) => refused(alloc, fault),
+    }
+}
+
 fn show_copy(
     alloc: Global,
     pkg: &Word,
@@ -134,6 +148,9 @@ fn refused(alloc: Global, fault: PackageFault) -> Result<String, Fault> {
         PackageFault::TooMany { span } => ("too many", span),
         PackageFault::EnvOperator { span } => ("no update", span),
         PackageFault::Unsafe { span } => ("unsafe", span),
+        PackageFault::Syntax(SyntaxFault::Doubled { at }) => {
+            return Ok(format!(in alloc; "doubled at {at}")?);
+        }
         PackageFault::Syntax(_) => return plain(alloc, "no file"),
         PackageFault::Memory => return Err(Fault::Memory),
     };
