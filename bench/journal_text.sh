@@ -59,14 +59,17 @@ program = sys.argv[1]
 whole = int(sys.argv[2]) << 20
 
 
-def record(count):
+# The record is written piece by piece: what this process has in memory would count for those that it starts.
+def write_record(count):
     each = whole // count
-    parts = [b"OPAMREC2\x01", b"\x00\x01a\x00\x011", struct.pack(">I", 0), struct.pack(">I", count)]
-    content = bytes(each)
-    for k in range(count):
-        path = b"lib/a/%07d" % k
-        parts.append(b"\x00" + struct.pack(">H", len(path)) + path + struct.pack(">I", each) + content)
-    return b"".join(parts)
+    content = bytes(min(each, 1 << 20))
+    with open("record", "wb") as file:
+        file.write(b"OPAMREC2\x01\x00\x01a\x00\x011" + struct.pack(">II", 0, count))
+        for k in range(count):
+            path = b"lib/a/%07d" % k
+            file.write(b"\x00" + struct.pack(">H", len(path)) + path + struct.pack(">I", each))
+            for _ in range(each // len(content)):
+                file.write(content)
 
 
 def run():
@@ -78,15 +81,11 @@ def run():
     return int(nanos), usage.ru_maxrss * 1024
 
 
-with open("record", "wb") as file:
-    file.write(b"OPAMREC2\x04")
-_, empty = run()
 for count in (1, whole // 4096):
-    data = record(count)
-    with open("record", "wb") as file:
-        file.write(data)
+    write_record(count)
+    size = os.path.getsize("record")
     runs = [run() for _ in range(5)]
-    speed = len(data) / (statistics.median(nanos for nanos, _ in runs) / 1e9)
-    beside = (max(most for _, most in runs) - empty - len(data)) / len(data)
-    print(f"{len(data)} bytes in {count} files: {speed / 1e6:.0f} MB/s, {beside:.2f} times its size in memory beside it")
+    speed = size / (statistics.median(nanos for nanos, _ in runs) / 1e9)
+    beside = (max(most for _, most in runs) - size) / size
+    print(f"{size} bytes in {count} files: {speed / 1e6:.0f} MB/s, {beside:.2f} times its size in memory beside it")
 PYTHON
