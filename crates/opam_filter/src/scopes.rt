@@ -13,11 +13,7 @@ use opam_syntax::Var;
 use std::alloc::Global;
 
 /// What a variable is.
-pub fn value_at(
-    alloc: Global,
-    vars: &Vars,
-    variable: &Var,
-) -> Result<Option<VarValue>, OutOfMemory>
+pub fn value_at(alloc: Global, vars: &Vars, variable: &Var) -> Result<Option<VarValue>, OutOfMemory>
     ensures { IfOk result (λ value. value ≡ value_at vars.now variable.now) }
 {
     let Some(scope) = &variable.scope else {
