@@ -1,15 +1,16 @@
 // Calls of `outside_io` and `child_pool` over devices in memory.
-use crate::devices::Devices;
-use crate::fault::Fault;
-use crate::lexer::Word;
-use crate::names::{path_of, pkg_of};
-use crate::script::Call;
-use crate::show::{plain, quoted};
 use child_pool::{Crew, SerialCrew, build};
 use opam_names::{Items, Text};
 use outside_io::{
     Ending, Failed, Fate, Found, Host, HostFault, Job, ScriptShop, Seen, Sink, Teller, Workshop,
 };
+use row_script::devices::Devices;
+use row_script::fates::{show_ending, show_fate};
+use row_script::fault::Fault;
+use row_script::lexer::Word;
+use row_script::script::Call;
+use row_script::show::{plain, quoted};
+use row_script::values::{path_of, pkg_of};
 use std::alloc::Global;
 
 pub fn answer(alloc: Global, call: &Call, devices: &mut Devices) -> Result<Option<String>, Fault> {
@@ -124,26 +125,6 @@ fn command(alloc: Global) -> Result<Items<Text>, Fault> {
     words.push(Text::from_str(alloc, "make")?)?;
     words.push(Text::from_str(alloc, "all")?)?;
     Ok(words)
-}
-
-fn show_ending(alloc: Global, ending: Ending) -> Result<String, Fault> {
-    match ending {
-        Ending::Exit(code) => Ok(format!(in alloc; "exit {code}")?),
-        Ending::Killed => plain(alloc, "killed"),
-        Ending::NotStarted => plain(alloc, "not started"),
-        Ending::NotPrepared => plain(alloc, "not prepared"),
-    }
-}
-
-/// A fate in words.
-pub fn show_fate(alloc: Global, fate: Fate) -> Result<String, Fault> {
-    match fate {
-        Fate::Built => plain(alloc, "built"),
-        Fate::Stopped { step, ending } => {
-            let ending = show_ending(alloc, ending)?;
-            Ok(format!(in alloc; "stopped at step {step} by {ending}")?)
-        }
-    }
 }
 
 fn build_step(

@@ -5,15 +5,15 @@ ghost use Rattle.opam_names.specs.Paths.{is_above};
 ghost use Rattle.crash_disk.specs.Writes.{path_of};
 ghost use Rattle.switch_journal.specs.Commits.{is_outside};
 
-use crate::devices::Devices;
-use crate::disk_calls::done;
-use crate::fault::Fault;
-use crate::lexer::Word;
-use crate::script::Call;
-use crate::show::{plain, quoted};
-use crate::writes::{push_writes, writes_of};
 use crash_disk::{DiskFault, Write};
 use opam_names::{Items, OutOfMemory, RelPath};
+use row_script::devices::Devices;
+use row_script::disk_calls::done;
+use row_script::fault::Fault;
+use row_script::lexer::Word;
+use row_script::script::Call;
+use row_script::show::{plain, quoted};
+use row_script::writes::{push_writes, writes_of};
 use std::alloc::Global;
 use switch_journal::{
     Gated, Ready, ReadySlot, commit, gate_path_of, make_ready, make_slot, read_record, read_slot,

@@ -1,11 +1,11 @@
 // Calls of `Items` and `Buffer`, on lists of texts.
 ghost use Rattle.std.specs.Prelude.{◌<◌, ◌≤◌, IfOk, length};
 
-use crate::fault::Fault;
-use crate::lexer::Word;
-use crate::script::Call;
-use crate::show::{answered, plain, push_quoted, quoted};
 use opam_names::{Buffer, Items, Text};
+use row_script::fault::Fault;
+use row_script::lexer::Word;
+use row_script::script::Call;
+use row_script::show::{answered, plain, push_quoted, quoted};
 use std::alloc::Global;
 
 /// No buffer of a script has more room.

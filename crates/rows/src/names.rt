@@ -2,14 +2,15 @@
 ghost use Rattle.std.specs.Prelude.{◌<◌, ◌^◌, length, IfOk};
 ghost use Rattle.opam_names.specs.ByteOrders.{NeverFallsBy};
 
-use crate::fault::Fault;
-use crate::lexer::Word;
-use crate::script::Call;
-use crate::show::{answered, plain, quoted};
 use opam_names::{
     Name, Pkg, ReadFault, RelPath, Version, count_before_bytes, find_by_bytes, has_bytes,
     keep_first_of_each, order_is_stable, rises_by_bytes, sort_by_bytes, text_order,
 };
+use row_script::fault::Fault;
+use row_script::lexer::Word;
+use row_script::script::Call;
+use row_script::show::{answered, plain, quoted};
+use row_script::values::{bytes_of, name_of, path_of, pkg_of, version_of};
 use std::alloc::Global;
 use std::cmp::Ordering;
 
@@ -44,56 +45,6 @@ pub fn answer(alloc: Global, call: &Call) -> Result<Option<String>, Fault> {
         _ => return Ok(None),
     };
     Ok(Some(answer?))
-}
-
-/// Bytes that a call may take: fewer than 2^32.
-pub fn bytes_of(word: &Word) -> &[u8]
-    ensures { length result.now < 2 ^ 32 }
-{
-    cut(word.bytes.as_slice())
-}
-
-/// Nothing of bytes that are too many for a call.
-pub fn cut(bytes: &[u8]) -> &[u8]
-    ensures { length result.now < 2 ^ 32 }
-{
-    if bytes.len() < 4294967296 { bytes } else { b"" }
-}
-
-/// The name that a word is to be.
-pub fn name_of(alloc: Global, word: &Word) -> Result<Name, Fault> {
-    match Name::read(alloc, bytes_of(word)) {
-        Ok(name) => Ok(name),
-        Err(ReadFault::Bad { .. }) => Err(Fault::Line("a word is no name")),
-        Err(ReadFault::Memory) => Err(Fault::Memory),
-    }
-}
-
-/// The version that a word is to be.
-pub fn version_of(alloc: Global, word: &Word) -> Result<Version, Fault> {
-    match Version::read(alloc, bytes_of(word)) {
-        Ok(version) => Ok(version),
-        Err(ReadFault::Bad { .. }) => Err(Fault::Line("a word is no version")),
-        Err(ReadFault::Memory) => Err(Fault::Memory),
-    }
-}
-
-/// The package that a word is to be.
-pub fn pkg_of(alloc: Global, word: &Word) -> Result<Pkg, Fault> {
-    match Pkg::read(alloc, bytes_of(word)) {
-        Ok(pkg) => Ok(pkg),
-        Err(ReadFault::Bad { .. }) => Err(Fault::Line("a word is no package")),
-        Err(ReadFault::Memory) => Err(Fault::Memory),
-    }
-}
-
-/// The path that a word is to be.
-pub fn path_of(alloc: Global, word: &Word) -> Result<RelPath, Fault> {
-    match RelPath::read(alloc, bytes_of(word)) {
-        Ok(path) => Ok(path),
-        Err(ReadFault::Bad { .. }) => Err(Fault::Line("a word is no path")),
-        Err(ReadFault::Memory) => Err(Fault::Memory),
-    }
 }
 
 fn faulty(alloc: Global, fault: ReadFault) -> Result<String, Fault> {

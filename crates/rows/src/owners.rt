@@ -1,11 +1,11 @@
 // Calls of `owner_map`, on the owned paths that the lines so far have left. `Owners::empty` begins anew.
-use crate::fault::Fault;
-use crate::lexer::Word;
-use crate::names::{cut, path_of, pkg_of};
-use crate::script::Call;
-use crate::show::{answered, plain};
 use opam_names::{Pkg, ReadFault, RelPath};
 use owner_map::{Other, Owners};
+use row_script::fault::Fault;
+use row_script::lexer::Word;
+use row_script::script::Call;
+use row_script::show::{answered, plain};
+use row_script::values::{cut, path_of, pkg_of};
 use std::alloc::Global;
 
 /// No line adds more paths by number.

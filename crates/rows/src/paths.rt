@@ -2,13 +2,13 @@
 ghost use Rattle.std.specs.Prelude.{◌≡◌, List, ℕ, IfOk, map};
 ghost use Rattle.path_order.specs.Apart.{AreApart};
 
-use crate::fault::Fault;
-use crate::lexer::Word;
-use crate::names::path_of;
-use crate::script::Call;
-use crate::show::{answered, plain};
 use opam_names::RelPath;
 use path_order::{above_in, are_apart, place_of, stands_before};
+use row_script::fault::Fault;
+use row_script::lexer::Word;
+use row_script::script::Call;
+use row_script::show::{answered, plain};
+use row_script::values::path_of;
 use std::alloc::Global;
 
 /// A path, and its place among the words.

@@ -1,11 +1,11 @@
 // Calls of `action_report`.
-use crate::devices::ending_of;
-use crate::fault::Fault;
-use crate::lexer::Word;
-use crate::names::{path_of, pkg_of};
-use crate::script::Call;
-use crate::show::{answered, quoted};
 use action_report::{Decision, Reason, line_of, summary};
+use row_script::devices::ending_of;
+use row_script::fault::Fault;
+use row_script::lexer::Word;
+use row_script::script::Call;
+use row_script::show::{answered, quoted};
+use row_script::values::{path_of, pkg_of};
 use std::alloc::Global;
 
 pub fn answer(alloc: Global, call: &Call) -> Result<Option<String>, Fault> {

@@ -2,16 +2,16 @@
 ghost use Rattle.journal_text.specs.Records.{IsSpelledBy};
 ghost use Rattle.journal_text.specs.Slots.{IsSlotSpelledBy};
 
-use crate::fault::Fault;
-use crate::lexer::Word;
-use crate::script::Call;
-use crate::show::{plain, push_quoted};
 use journal_text::{
     Entry, KeptFiles, Owned, Placed, Rec, Snapshot, decode, decode_old, decode_old_slot,
     decode_slot, encode, encode_slot, push_slot_count, push_slot_entry, push_slot_front,
     push_slot_path, push_slot_root,
 };
 use opam_names::{Name, Pkg};
+use row_script::fault::Fault;
+use row_script::lexer::Word;
+use row_script::script::Call;
+use row_script::show::{plain, push_quoted};
 use std::alloc::Global;
 
 pub fn answer(alloc: Global, call: &Call) -> Result<Option<String>, Fault> {

@@ -1,10 +1,10 @@
 // Calls of `command_words`.
-use crate::fault::Fault;
-use crate::lexer::Word;
-use crate::script::{Call, strings};
-use crate::show::{plain, quoted};
 use command_words::{Change, Command, Query, Shown, WordFault, read_words};
 use opam_names::{Items, Name, Text};
+use row_script::fault::Fault;
+use row_script::lexer::Word;
+use row_script::script::{Call, strings};
+use row_script::show::{plain, quoted};
 use std::alloc::Global;
 
 pub fn answer(alloc: Global, call: &Call) -> Result<Option<String>, Fault> {

@@ -1,13 +1,8 @@
 // Calls of `opam_package`. The items of a file stand between `;`: a field as its name and its value, a section as its name, `{`
 // and perhaps a field.
-use crate::fault::Fault;
 use crate::filter_show::push_reduced;
 use crate::filters::{faulty, set_of};
-use crate::lexer::Word;
-use crate::names::pkg_of;
 use crate::package_show::{push_command, push_need, push_update};
-use crate::script::Call;
-use crate::show::{answered, plain, push_quoted};
 use crate::trees::{read_tree, syntax_word};
 use indexmap::IndexMap;
 use opam_filter::{Reduced, Vars};
@@ -17,6 +12,11 @@ use opam_package::{
     read_package,
 };
 use opam_syntax::{File, Item, Key, Span, SyntaxFault};
+use row_script::fault::Fault;
+use row_script::lexer::Word;
+use row_script::script::Call;
+use row_script::show::{answered, plain, push_quoted, quoted};
+use row_script::values::pkg_of;
 use std::alloc::Global;
 
 pub fn answer(alloc: Global, call: &Call, vars: &Vars) -> Result<Option<String>, Fault> {
@@ -179,7 +179,7 @@ fn part_of(alloc: Global, package: &Package, part: &Word) -> Result<String, Faul
 fn one_text(alloc: Global, text: &Option<Text>) -> Result<String, Fault> {
     match text {
         None => plain(alloc, "none"),
-        Some(text) => crate::show::quoted(alloc, text.as_str().as_bytes()),
+        Some(text) => quoted(alloc, text.as_str().as_bytes()),
     }
 }
 

@@ -1,10 +1,5 @@
 // Calls of `opam_filter`, under the variables of the script.
-use crate::fault::Fault;
 use crate::filter_show::{push_filter, push_formula, push_reduced, truth_word};
-use crate::lexer::Word;
-use crate::names::pkg_of;
-use crate::script::Call;
-use crate::show::{answered, plain, quoted};
 use crate::trees::{read_tree, variable};
 use opam_filter::{
     Filter, FilterFault, Formula, Reduced, VarValue, Vars, asked, asked_in, atoms, eval, expand,
@@ -12,6 +7,11 @@ use opam_filter::{
 };
 use opam_names::{Name, Pkg, Text};
 use opam_syntax::Span;
+use row_script::fault::Fault;
+use row_script::lexer::Word;
+use row_script::script::Call;
+use row_script::show::{answered, plain, quoted};
+use row_script::values::pkg_of;
 use std::alloc::Global;
 
 pub fn answer(alloc: Global, call: &Call, vars: &mut Vars) -> Result<Option<String>, Fault> {

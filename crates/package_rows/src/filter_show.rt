@@ -1,7 +1,7 @@
 // Filters and formulas as they are shown: the name of each form, and its parts between parentheses.
-use crate::fault::Fault;
-use crate::show::push_quoted;
 use opam_filter::{Braces, Filter, Formula, Reduced, RelOp, Test, Truth, Var};
+use row_script::fault::Fault;
+use row_script::show::push_quoted;
 
 pub fn sign(op: RelOp) -> &'static str {
     match op {

@@ -1,10 +1,10 @@
 // Parts of a package as they are shown.
-use crate::fault::Fault;
 use crate::filter_show::{push_filter, push_reduced, push_var};
-use crate::show::push_quoted;
 use opam_filter::Filter;
 use opam_package::{Arg, Command, EnvUpdate, Need, Word};
 use opam_syntax::EnvOp;
+use row_script::fault::Fault;
+use row_script::show::push_quoted;
 
 /// The three readings, one after another.
 pub fn push_need(text: &mut String, need: &Need) -> Result<(), Fault> {

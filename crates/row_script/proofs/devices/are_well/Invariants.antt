@@ -1,6 +1,6 @@
 use Rattle.std.proofs.Common.{◌≡◌, length}
 use Rattle.outside_io.specs.Scripts.{all_well}
-use Rattle.rows.proofs.devices.are_well.Given as goal
+use Rattle.row_script.proofs.devices.are_well.Given as goal
 
 -- no script so far has an ending that cannot be
 abbrev pub invariant-loop-rest : goal.invariant-loop-rest

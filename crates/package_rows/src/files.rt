@@ -1,11 +1,11 @@
 // Calls of `opam_syntax`.
-use crate::fault::Fault;
-use crate::lexer::Word;
-use crate::script::{Call, same};
-use crate::show::quoted;
 use crate::trees::{read_tree, syntax_word};
 use indexmap::IndexMap;
 use opam_syntax::{File, Item, Key, Label, Node, print_file};
+use row_script::fault::Fault;
+use row_script::lexer::Word;
+use row_script::script::{Call, same};
+use row_script::show::quoted;
 use sqlite_items::Items;
 use std::alloc::Global;
 

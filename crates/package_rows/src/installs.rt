@@ -1,11 +1,11 @@
 // Calls of `install_sections`. Up to eight files are shown, of more their number.
-use crate::fault::Fault;
-use crate::lexer::Word;
-use crate::names::name_of;
-use crate::script::Call;
-use crate::show::{plain, push_quoted};
 use install_sections::{InstallFault, Layout, Placement, Section, read_install};
 use opam_syntax::{FILE_LIMIT, Span, SyntaxFault};
+use row_script::fault::Fault;
+use row_script::lexer::Word;
+use row_script::script::Call;
+use row_script::show::{plain, push_quoted};
+use row_script::values::name_of;
 use std::alloc::Global;
 
 /// More files are counted.

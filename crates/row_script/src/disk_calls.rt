@@ -2,9 +2,9 @@
 use crate::devices::Devices;
 use crate::fault::Fault;
 use crate::lexer::Word;
-use crate::names::path_of;
 use crate::script::Call;
 use crate::show::{plain, quoted};
+use crate::values::path_of;
 use crate::writes::writes_of;
 use crash_disk::{Choice, Claim, Disk, DiskFault, DiskRead, Look, MemoryDisk, write_all};
 use outside_io::Failed;

@@ -1,12 +1,12 @@
 // Calls of `read_file`, of a file's `field`, and of `text_of`. A file is shown by its items, each with its place, and a value as `print_file` takes it: after its
 // parts, and with the place where it stands, as `x @3-4`. Of faults only a doubled name is told with its place.
-use crate::fault::Fault;
-use crate::script::Call;
-use crate::show::{plain, push_quoted, quoted};
 use opam_syntax::{
     EnvOp, FILE_LIMIT, File, Item, Key, Node, RelOp, Span, SyntaxFault, Value, Var, read_file,
     text_of,
 };
+use row_script::fault::Fault;
+use row_script::script::Call;
+use row_script::show::{plain, push_quoted, quoted};
 use std::alloc::Global;
 
 pub fn answer(alloc: Global, call: &Call) -> Result<Option<String>, Fault> {

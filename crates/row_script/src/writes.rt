@@ -2,8 +2,8 @@
 // executable where it stands without quotes.
 use crate::fault::Fault;
 use crate::lexer::Word;
-use crate::names::path_of;
 use crate::show::push_quoted;
+use crate::values::path_of;
 use crash_disk::Write;
 use opam_names::{Items, RelPath};
 use std::alloc::Global;

@@ -6,9 +6,9 @@ ghost use Rattle.outside_io.specs.Scripts.{all_well};
 
 use crate::fault::Fault;
 use crate::lexer::Word;
-use crate::names::{path_of, pkg_of};
 use crate::script::{Call, numbers, same};
 use crate::show::plain;
+use crate::values::{path_of, pkg_of};
 use crash_disk::MemoryDisk;
 use opam_names::{Items, RelPath, Text};
 use outside_io::{Ending, MemoryHost, MemorySink, Script, ScriptShop};

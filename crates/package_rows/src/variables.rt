@@ -1,12 +1,12 @@
 // Calls of `package_vars`, over the facts of the script.
-use crate::fault::Fault;
 use crate::filters::{set_of, value, value_of};
-use crate::lexer::Word;
-use crate::names::{name_of, pkg_of};
-use crate::script::Call;
-use crate::show::{plain, push_quoted};
 use opam_names::{Items, Name, Text};
 use package_vars::{Facts, VarValue, View, globals, vars_for};
+use row_script::fault::Fault;
+use row_script::lexer::Word;
+use row_script::script::Call;
+use row_script::show::{plain, push_quoted};
+use row_script::values::{name_of, pkg_of};
 use std::alloc::Global;
 
 pub fn answer(alloc: Global, call: &Call, facts: &mut Facts) -> Result<Option<String>, Fault> {

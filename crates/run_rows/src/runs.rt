@@ -1,13 +1,13 @@
 // Whole runs of `opam_run` over the devices of the script.
-use crate::calls::show_fate;
-use crate::devices::Devices;
-use crate::fault::Fault;
-use crate::lexer::Word;
-use crate::script::{Call, strings};
-use crate::show::quoted;
 use opam_names::{Items, OutOfMemory, Text};
 use opam_top::{Ended, Facts, VarValue, opam_run};
 use outside_io::MemorySink;
+use row_script::devices::Devices;
+use row_script::fates::show_fate;
+use row_script::fault::Fault;
+use row_script::lexer::Word;
+use row_script::script::{Call, strings};
+use row_script::show::quoted;
 use std::alloc::Global;
 use std::sync::Wait;
 use std::thread::Threads;

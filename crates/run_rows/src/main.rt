@@ -1,0 +1,51 @@
+//! Answers a script of whole runs over devices in memory, so that what each run tells and leaves can be read by eye and
+//! compared with what is stored. It proves nothing but that it is safe.
+#![tactic(auto)]
+
+mod runs;
+#[cfg(test)]
+mod tests;
+
+use row_script::answers::{as_it_is, stands_for_itself, with_answer};
+use row_script::devices::Devices;
+use row_script::fault::Fault;
+use row_script::script::read_call;
+use row_script::{devices, disk_calls};
+use std::io;
+use std::io::{BufRead, BufReader, BufWriter, Write};
+use std::sync::Wait;
+use std::thread::Threads;
+
+fn main(rt: HostRuntime) -> io::Result<()> {
+    let alloc = rt.alloc();
+    let mut devices = Devices::new(alloc);
+    let mut out = BufWriter::new(alloc, io::writer(&rt))?;
+    for line in BufReader::new(alloc, rt.reader())?.split(alloc, b'\n') {
+        let line = line?;
+        let line = line.as_slice();
+        let text = if stands_for_itself(line) {
+            as_it_is(alloc, line)?
+        } else {
+            with_answer(alloc, line, answer(&rt, line, &mut devices))?
+        };
+        writeln!(out, "{text}")?;
+    }
+    out.flush()
+}
+
+// A run, a line that says what a device is made of, or a look at the disk.
+fn answer<R: Threads + Wait + AllocGlobal + Clone + Send + Sync + Drop + 'static>(
+    rt: &R,
+    line: &[u8],
+    devices: &mut Devices,
+) -> Result<Option<String>, Fault> {
+    let alloc = rt.alloc();
+    let call = &read_call(alloc, line)?;
+    if let Some(text) = runs::answer(rt, call, devices)? {
+        return Ok(Some(text));
+    }
+    if let Some(text) = devices::answer(alloc, call, devices)? {
+        return Ok(Some(text));
+    }
+    disk_calls::answer(alloc, call, devices)
+}
