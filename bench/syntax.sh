@@ -5,6 +5,19 @@
 # is measured is processor time, user's and system's, as the best of five runs, less what a run that only loads the texts
 # takes; and the most memory that a process held, less what it held with the texts loaded. The reader is proved and built in
 # a copy, which takes minutes.
+#
+# Aims, and what falls short of them (measured on 4 processors beside several provers, which slows the C loop to half):
+# - 50 MB/s. Texts of a few bytes a token have less: 11 to 17 small fields, 12 to 16 a list of texts of one byte, 3 deep
+#   nests; one section of short fields 35. Long texts have 220 and more, comments 640.
+# - Five times `opam-file-format`: 4.6 to 6 for small fields, 7 to 12 for the list; 2 for deep nests.
+# - At most 40 times the C loop: 100 to 130 for small fields, 100 to 120 for the list, 530 to 630 for deep nests.
+# - At most 100 bytes of memory a byte of text: 212 for deep nests; 42 and less for all others.
+# - 4 MiB in at most five times the time of 1 MiB: met where the text has many tokens. Long texts and comments go through
+#   the cache of the processor at 1 MiB, and not at 4.
+# Where the time goes (perf): a token takes its 64 bytes of the vector between the two passes, and a node 64 more, so a
+# quarter is the system's, which hands out fresh pages; a quarter to a third is `malloc`, `free` and `memmove` of tokens and
+# nodes. In deep nests each bracket goes through the eight levels of the grammar, each of which moves the result, and a list of
+# one value has the room of four.
 # Usage: bench/syntax.sh [FOLDER]
 set -eu
 top=$(cd "$(dirname "$0")/.." && pwd)
@@ -158,7 +171,7 @@ import sys
 
 READER, SUMS, WORK, PARSER = sys.argv[1:5]
 SIZES = [("256 KiB", 1 << 18), ("1 MiB", 1 << 20), ("4 MiB", 1 << 22)]
-LEAST_WORK = 12 << 20  # bytes that a run goes over at least: the C loop 40 times as many, the OCaml parser a sixth
+LEAST_TIME = 0.3  # seconds that a run is to take at least
 
 
 def filled(head, pieces, tail, size):
@@ -221,11 +234,13 @@ def run(program, paths, turns):
     return printed, usage.ru_utime + usage.ru_stime
 
 
-def seconds(program, paths, turns):
-    """How long one turn takes over these paths, and what was printed."""
-    runs = [run(program, paths, turns) for _ in range(5)]
+def seconds(program, paths):
+    """How long one turn takes over these paths, and the first number that was printed."""
     idle = min(run(program, paths, 0)[1] for _ in range(5))
-    return max(min(spent for _, spent in runs) - idle, 1e-9) / turns, runs[0][0]
+    printed, once = run(program, paths, 1)
+    turns = max(1, round(LEAST_TIME / max(once - idle, 1e-4)))
+    spent = min(run(program, paths, turns)[1] for _ in range(5)) - idle
+    return max(spent, 1e-9) / turns, int(printed.split()[0])
 
 
 def memory(paths):
@@ -246,27 +261,26 @@ def aim(what, value, bound, met):
 
 
 def measure(what, paths, size):
-    turns, slow_turns = -(-LEAST_WORK // size), -(-LEAST_WORK // 6 // size)
-    ours, printed = seconds(READER, paths, turns)
-    loop, _ = seconds(SUMS, paths, 40 * turns)
-    held = memory(paths) / size
+    ours, count = seconds(READER, paths)
+    loop, _ = seconds(SUMS, paths)
     rate = size / ours / 1e6
     aim(f"{what}, MB/s", rate, "50", rate >= 50)
-    aim(f"{what}, bytes of memory a byte", held, "100", held <= 100)
     aim(f"{what}, times the C loop", ours / loop, "40", ours <= 40 * loop)
-    told = f"{what:28} {rate:8.1f} {held:8.1f} {ours / loop:8.1f}"
+    told, files = f"{what:28} {rate:8.1f} {ours / loop:8.1f}", f"files: {count}"
     if PARSER:
-        theirs, accepted = seconds(PARSER, paths, slow_turns)
+        theirs, accepted = seconds(PARSER, paths)
         aim(f"{what}, times as fast as opam-file-format", theirs / ours, "5", theirs >= 5 * ours)
         told += f" {size / theirs / 1e6:8.1f} {theirs / ours:8.1f}"
-        told += f"   files: {int(printed.split()[0]) // turns} and {int(accepted) // slow_turns} of {len(paths)}"
-    else:
-        told += f"   files: {int(printed.split()[0]) // turns} of {len(paths)}"
-    print(told, flush=True)
+        files += f" and {accepted}"
+    if len(paths) == 1:
+        held = memory(paths) / size
+        aim(f"{what}, bytes of memory a byte", held, "100", held <= 100)
+        told += f" {held:8.1f}"
+    print(f"{told}   {files} of {len(paths)}", flush=True)
     return ours
 
 
-print(f"{'':28} {'MB/s':>8} {'bytes/b':>8} {'x C loop':>8}" + (f" {'OCaml':>8} {'faster':>8}" if PARSER else ""))
+print(f"{'':28} {'MB/s':>8} {'x C loop':>8}" + (f" {'OCaml':>8} {'faster':>8}" if PARSER else "") + f" {'memory':>8}")
 with open(os.path.join(WORK, "found")) as file:
     found = file.read().split("\n")[:-1]
 if found:
