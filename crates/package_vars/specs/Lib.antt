@@ -1,2 +1,3 @@
 pub mod BuildVariables
 pub mod Steps
+pub mod VariableLaws
