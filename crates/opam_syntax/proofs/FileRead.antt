@@ -1,8 +1,8 @@
 -- What is read is the text of the file, and what is refused is the text of none.
-use Rattle.std.proofs.Common.{◌≡◌, ◌≢◌, ℕ, List, [], length, refl, sym, subst, ◌∙◌}
+use Rattle.std.proofs.Common.{◌≡◌, ◌≢◌, ℕ, List, [], length, subst, ◌∙◌}
 use Rattle.std.specs.Prelude.{Result, Ok, Err, IfErr, IfOk, OnOk}
 use Rattle.std.specs.declared.option.Option.{Option}
-use Rattle.std.specs.declared.option.Option.TheVariants.{None, Some}
+use Rattle.std.specs.declared.option.Option.TheVariants.{None}
 use Rattle.opam_syntax.specs.declared.entry.ReadEntry.{ReadEntry}
 use Rattle.opam_syntax.specs.declared.fault.ParseFault.{ParseFault}
 use Rattle.opam_syntax.specs.declared.fault.ParseFault.TheVariants as parse
@@ -14,10 +14,11 @@ use Rattle.opam_syntax.specs.Files.{AreEntries}
 use Rattle.opam_syntax.specs.Nesting.{AreShallow}
 use Rattle.opam_syntax.specs.ParsingEntries.{HasNoShallow}
 use Rattle.opam_syntax.specs.Read.{read_entries}
-use Rattle.opam_syntax.specs.Reading.{IsDoubledWhereTold, IsNoFile, IsParseFault, IsRefused}
+use Rattle.opam_syntax.specs.Reading.{IsDoubledWhereTold, IsNoFile, IsParseFault, IsPlaced, IsRefused}
 use Rattle.opam_syntax.specs.Tokens.{Placed, AreTokens}
 use Rattle.opam_syntax.specs.Trees.{HasEntries, IsTextOf}
 use Rattle.opam_syntax.proofs.Doubling.{twice_is_doubled}
+use Rattle.opam_syntax.proofs.NowhereDeep.{derived_nowhere_deep}
 use Rattle.opam_syntax.proofs.OneFault.{no_fault}
 use Rattle.opam_syntax.proofs.OneTokens.{same_tokens}
 
@@ -47,6 +48,22 @@ doubled_told bytes tokens entries Memory p q h = tt
 doubled_told bytes tokens entries (Ended at) p q h = tt
 doubled_told bytes tokens entries (Stray at) p q h = tt
 doubled_told bytes tokens entries (Deep at) p q h = tt
+
+-- a doubled name is told of shallow entries alone
+pub doubled_placed : (bytes : List ℕ) (tokens : List Placed) (entries : List ReadEntry) (fault : SyntaxFault) → AreTokens (length bytes) bytes tokens
+    → AreEntries tokens (read_entries entries) → AreShallow (read_entries entries) → TellsDoubled (entries_twice [] entries) fault → IsPlaced bytes fault
+doubled_placed bytes tokens entries (Doubled at) p q s h =
+    (derived_nowhere_deep bytes tokens (read_entries entries) p q s, (read_entries entries, (tokens, p, q), twice_is_doubled bytes tokens entries p q ∙ h))
+doubled_placed bytes tokens entries Memory p q s h = tt
+doubled_placed bytes tokens entries (Ended at) p q s h = absurd h
+doubled_placed bytes tokens entries (Stray at) p q s h = tt
+doubled_placed bytes tokens entries (Deep at) p q s h = tt
+
+pub fault_placed : (bytes : List ℕ) (tokens : List Placed) (entries : List ReadEntry) (result : Result File SyntaxFault) → AreTokens (length bytes) bytes tokens
+    → AreEntries tokens (read_entries entries) → AreShallow (read_entries entries) → IfErr result (TellsDoubled (entries_twice [] entries))
+    → IfErr result (IsPlaced bytes)
+fault_placed bytes tokens entries (Ok file) p q s h = tt
+fault_placed bytes tokens entries (Err fault) p q s h = doubled_placed bytes tokens entries fault p q s h
 
 pub doubled_refused : (bytes : List ℕ) (found : Option ℕ) (fault : SyntaxFault) → TellsDoubled found fault → IsDoubledWhereTold bytes fault → IsRefused bytes fault
 doubled_refused bytes found (Doubled at) h d = λ file t. (no_fault bytes file at t).2 d

@@ -36,3 +36,8 @@ pub mod ParsedEntries
 pub mod Doubling
 pub mod Assembled
 pub mod FileRead
+pub mod Heights
+pub mod HeightsTold
+pub mod Suffixes
+pub mod Settled
+pub mod NowhereDeep

@@ -7,7 +7,7 @@ use Rattle.opam_syntax.specs.declared.file.File.{File}
 use Rattle.opam_syntax.specs.Files.{Entry, Derives}
 use Rattle.opam_syntax.specs.Trees.{items_of, IsTextOf}
 use Rattle.opam_syntax.specs.Spans.{span_within, contents_within}
-use Rattle.opam_syntax.specs.Faults.{IsFaultOf, IsStrayAt, IsEndedAt, IsDoubledAt}
+use Rattle.opam_syntax.specs.Faults.{IsFaultOf, IsNowhereDeep, IsStrayAt, IsEndedAt, IsDoubledAt}
 
 -- bytes spell at most one tree: two files of one text have the same items, at the same places
 abbrev pub OneTreeForBytes : Type 0
@@ -27,6 +27,14 @@ OneFaultForBytes = (bytes : List ℕ) (one other : SyntaxFault) → IsFaultOf by
 abbrev pub FilesHaveNoFault : Type 0
 FilesHaveNoFault = (bytes : List ℕ) (file : File) (place : ℕ) → IsTextOf bytes file
     → (¬ (IsStrayAt bytes place)) × (¬ (IsEndedAt bytes place)) × (¬ (IsDoubledAt bytes place))
+
+-- the text of a file is nowhere too deep
+abbrev pub FilesAreNowhereDeep : Type 0
+FilesAreNowhereDeep = (bytes : List ℕ) (file : File) → IsTextOf bytes file → IsNowhereDeep bytes
+
+-- but for want of memory, the text of a file has no fault
+abbrev pub FilesAreFaultless : Type 0
+FilesAreFaultless = (bytes : List ℕ) (file : File) (fault : SyntaxFault) → IsTextOf bytes file → IsFaultOf bytes fault → fault ≡ Memory
 
 -- every node and every item of a file has a span of some bytes of its text
 abbrev pub SpansAreWithin : Type 0

@@ -56,7 +56,8 @@ fn add_entry(
 
 // A section's key is told before the names in it.
 fn is_doubled_section(items: &IndexMap<Key, Item>, entry: &ReadEntry) -> bool
-    ensures { result ≡ (is_section entry.now.contents && list_any (key_eq entry.now.key) (keys items.now)) }
+    ensures { result ≡ (is_section entry.now.contents
+        && list_any (key_eq entry.now.key) (keys items.now)) }
 {
     match &entry.contents {
         ReadContents::Field(_) => false,
@@ -115,7 +116,8 @@ fn make_section(
 
 fn add_field(section: &mut IndexMap<Word, Node>, field: ReadField) -> Result<(), SyntaxFault>
     ensures single { OnOk result (list_any (bytes_eq field.name) (keys section.old) ≡ false) }
-    ensures fields { OnOk result (section.new.entries ≡ section.old.entries ++ field_of field ∷ []) }
+    ensures fields { OnOk result (section.new.entries
+        ≡ section.old.entries ++ field_of field ∷ []) }
     ensures err { IfErr result (TellsDoubled
         (if list_any (bytes_eq field.name) (keys section.old) then Some field.place else None)) }
 {

@@ -1,5 +1,5 @@
 // Laws of the grammar.
-ghost use Rattle.opam_syntax.specs.Laws.{FilesHaveNoFault, OneDerivation, OneFaultForBytes, OneTreeForBytes, SpansAreWithin};
+ghost use Rattle.opam_syntax.specs.Laws.{FilesAreFaultless, FilesAreNowhereDeep, FilesHaveNoFault, OneDerivation, OneFaultForBytes, OneTreeForBytes, SpansAreWithin};
 
 /// Bytes spell at most one tree: two files of one text have the same items, at the same places.
 pub fn one_tree_for_bytes()
@@ -19,6 +19,16 @@ pub fn one_fault_for_bytes()
 /// The text of a file is nowhere stray, has not ended early and has no doubled name.
 pub fn files_have_no_fault()
     ensures { FilesHaveNoFault }
+{}
+
+/// The text of a file is nowhere too deep.
+pub fn files_are_nowhere_deep()
+    ensures { FilesAreNowhereDeep }
+{}
+
+/// But for want of memory, the text of a file has no fault: a file and a fault exclude each other.
+pub fn files_are_faultless()
+    ensures { FilesAreFaultless }
 {}
 
 /// Every node and every item of a file has a span of some bytes of its text.

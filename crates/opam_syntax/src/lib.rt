@@ -26,7 +26,8 @@ mod words;
 pub use fault::SyntaxFault;
 pub use file::{File, Item, Key, Label, Word};
 pub use laws::{
-    files_have_no_fault, one_derivation, one_fault_for_bytes, one_tree_for_bytes, spans_are_within,
+    files_are_faultless, files_are_nowhere_deep, files_have_no_fault, one_derivation,
+    one_fault_for_bytes, one_tree_for_bytes, spans_are_within,
 };
 pub use limits::{FILE_LIMIT, NESTING_LIMIT};
 pub use lookup::text_of;

@@ -22,7 +22,8 @@ pub fn print_file(alloc: Global, file: &File) -> Result<Vec<u8>, OutOfMemory>
 }
 
 fn print_item(out: &mut Vec<u8>, key: &Key, item: &Item) -> Result<(), OutOfMemory>
-    ensures { OnOk result (out.new.items ≡ out.old.items ++ item_text key.now (contents_of item.now)) }
+    ensures { OnOk result (out.new.items
+        ≡ out.old.items ++ item_text key.now (contents_of item.now)) }
 {
     match item {
         Item::Field(value) => print_field(out, &key.name, value),

@@ -1,7 +1,7 @@
 // A text is read in three passes: its tokens, its items, and the maps of its file.
 ghost use Rattle.std.specs.Prelude.{◌≡◌, ◌≢◌, ◌≤◌, length, IfErr, IfOk};
 ghost use Rattle.opam_syntax.specs.Read.{placed_tokens};
-ghost use Rattle.opam_syntax.specs.Reading.{IsDoubledWhereTold, IsNoFile, IsParseFault, IsRefused};
+ghost use Rattle.opam_syntax.specs.Reading.{IsDoubledWhereTold, IsNoFile, IsParseFault, IsPlaced, IsRefused};
 ghost use Rattle.opam_syntax.specs.Tokens.{AreTokens};
 ghost use Rattle.opam_syntax.specs.Trees.{IsTextOf};
 
@@ -15,13 +15,14 @@ use crate::{File, SyntaxFault};
 use opam_names::OutOfMemory;
 use std::alloc::Global;
 
-/// The file of which the bytes are the text (opam manual, file format). A fault says that they are the text of none; its place
-/// is promised for a doubled name alone.
+/// The file of which the bytes are the text (opam manual, file format). A fault says that they are the text of none. A doubled
+/// name is told only where nothing is too deep, at its place, and an early end after the last byte; the other places are not promised.
 pub fn read_file(alloc: Global, bytes: &[u8]) -> Result<File, SyntaxFault>
     requires { length bytes.now ≤ FILE_LIMIT }
     ensures ok { IfOk result (λ file. IsTextOf bytes.now file) }
     ensures refused { IfErr result (IsRefused bytes.now) }
     ensures doubled { IfErr result (IsDoubledWhereTold bytes.now) }
+    ensures placed { IfErr result (IsPlaced bytes.now) }
 {
     let scanned = scan(alloc, bytes)?;
     match scanned.end {
@@ -36,6 +37,7 @@ fn read_tokens(alloc: Global, bytes: &[u8], tokens: Vec<PlacedToken>) -> Result<
     ensures ok { IfOk result (λ file. IsTextOf bytes.now file) }
     ensures refused { IfErr result (IsRefused bytes.now) }
     ensures doubled { IfErr result (IsDoubledWhereTold bytes.now) }
+    ensures placed { IfErr result (IsPlaced bytes.now) }
 {
     match parse(alloc, tokens) {
         Ok(entries) => assemble(alloc, entries),
@@ -46,7 +48,8 @@ fn read_tokens(alloc: Global, bytes: &[u8], tokens: Vec<PlacedToken>) -> Result<
 // The same fault at a place of the text.
 fn fault_at(alloc: Global, bytes: &[u8], fault: ParseFault) -> SyntaxFault
     requires { length bytes.now ≤ FILE_LIMIT }
-    ensures { IsParseFault fault result }
+    ensures refused { IsParseFault fault result }
+    ensures placed { IsPlaced bytes.now result }
 {
     match fault {
         ParseFault::Ended => SyntaxFault::Ended {

@@ -8,7 +8,8 @@ use crate::{EnvOp, RelOp};
 
 // The sign of two bytes that these are.
 pub(crate) fn long_sign(first: u8, second: u8) -> Option<Token>
-    ensures { (rest : List ℕ) → sign_of result rest ≡ sign_among long_signs (first ∷ second ∷ rest) }
+    ensures { (rest : List ℕ)
+        → sign_of result rest ≡ sign_among long_signs (first ∷ second ∷ rest) }
 {
     match (first, second) {
         (b'!', b'=') => Some(Token::Relation(RelOp::Ne)),

@@ -1,4 +1,4 @@
-use Rattle.opam_syntax.proofs.FileRead.{fault_refused, fault_told, parse_refused, text_read}
+use Rattle.opam_syntax.proofs.FileRead.{fault_placed, fault_refused, fault_told, parse_refused, text_read}
 use Rattle.opam_syntax.proofs.reading.read_tokens.Goals as goal
 
 pub returns-in-Ok-clause-ok : goal.returns-in-Ok-clause-ok
@@ -14,6 +14,11 @@ pub returns-in-Ok-clause-doubled : goal.returns-in-Ok-clause-doubled
 returns-in-Ok-clause-doubled c =
     fault_told c.args.bytes.now _ c.in-Ok.entries.items c.assemble.result c.requires.spelled c.in-Ok.ensures.spelled c.assemble.ensures.err
 
+pub returns-in-Ok-clause-placed : goal.returns-in-Ok-clause-placed
+returns-in-Ok-clause-placed c =
+    fault_placed c.args.bytes.now _ c.in-Ok.entries.items c.assemble.result c.requires.spelled c.in-Ok.ensures.spelled c.in-Ok.ensures.shallow
+    c.assemble.ensures.err
+
 pub returns-in-Err-clause-refused : goal.returns-in-Err-clause-refused
 returns-in-Err-clause-refused c =
-    parse_refused c.args.bytes.now _ c.in-Err.fault c.fault_at.result c.requires.spelled c.in-Err.ensures.refused c.fault_at.ensures
+    parse_refused c.args.bytes.now _ c.in-Err.fault c.fault_at.result c.requires.spelled c.in-Err.ensures.refused c.fault_at.ensures.refused
