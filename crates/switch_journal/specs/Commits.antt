@@ -1,12 +1,13 @@
 -- A record that is ready for its commit, and where a commit and the opening begin. This project's own.
-use Rattle.std.specs.Prelude.{◌≡◌, ℕ, ◌+◌, ◌<◌, ◌^◌, List, [], ◌∷◌, ◌++◌, Bool, false, not}
+use Rattle.std.specs.Prelude.{◌≡◌, ℕ, ◌+◌, ◌<◌, ◌^◌, List, [], ◌∷◌, ◌++◌, Bool, false, not, IsTrue}
+use Rattle.std.specs.List.{list_all}
 use Rattle.std.specs.declared.option.Option.{Option}
 use Rattle.crash_disk.specs.Disks.{State}
 use Rattle.crash_disk.specs.Writes.{path_of, paths_of}
 use Rattle.crash_disk.specs.declared.batch.Write.{Write}
 use Rattle.crash_disk.specs.declared.batch.Write.TheVariants.{Put, Remove}
 use Rattle.switch_journal.specs.Places.{gate_path, gate_text, is_inside, record_path}
-use Rattle.switch_journal.specs.Texts.{Journal, RestsAs, next_number}
+use Rattle.switch_journal.specs.Texts.{Journal, RestsAs, TellsAs, next_number}
 use Rattle.switch_journal.specs.declared.commits.Ready.{Ready}
 
 abbrev pub is_outside : Write → Bool
@@ -26,8 +27,15 @@ ready_with number text writes = record { entry = entry_writes number text; gate 
 abbrev pub paths_of_ready : Ready → List (List ℕ)
 paths_of_ready ready = paths_of ready.entry ++ paths_of ready.gate ++ paths_of ready.writes
 
--- the record has the journal's next number, and the disk is at rest with this journal
+-- the record has the journal's next number, its work is outside of the journal, and the disk is at rest with this journal
 pub record Begins (j : Journal) (text : List ℕ) (ready : Ready) (told : Option State) : Type 0 where
   pub few : next_number j < 2 ^ 63
+  pub apart : IsTrue (list_all is_outside ready.writes)
   pub is : ready ≡ ready_with (next_number j) text ready.writes
   pub rest : RestsAs j told
+
+-- the last record's work is outside of the journal, and the disk tells files that are this journal, some of them loose maybe
+pub record BeginsAgain (j : Journal) (last : List Write) (told : Option State) : Type 0 where
+  pub is : last ≡ j.last
+  pub apart : IsTrue (list_all is_outside last)
+  pub tells : TellsAs j told

@@ -7,3 +7,6 @@ pub mod Texts
 pub mod Contents
 pub mod Applying
 pub mod Reading
+pub mod Journal
+pub mod Steps
+pub mod Snapshots

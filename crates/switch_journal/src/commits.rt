@@ -1,11 +1,10 @@
 // The commit of a record, and the opening that does the last one's work again.
-ghost use Rattle.std.specs.Prelude.{◌≡◌, ◌+◌, ◌<◌, ◌^◌, ℕ, List, IsTrue, IfOk, OnOk};
-ghost use Rattle.std.specs.List.{list_all};
+ghost use Rattle.std.specs.Prelude.{◌≡◌, ◌+◌, ◌≤◌, ◌^◌, ℕ, List, IfOk, OnOk};
 ghost use Rattle.crash_disk.specs.Effects.{Fails, Touches};
 ghost use Rattle.crash_disk.specs.Stops.{StopsLeave};
 ghost use Rattle.crash_disk.specs.Writes.{paths_of};
-ghost use Rattle.switch_journal.specs.Commits.{Begins, entry_writes, gate_writes, is_outside, paths_of_ready, ready_with};
-ghost use Rattle.switch_journal.specs.Texts.{IsBeforeOrAfter, IsOldOrSame, Journal, RestsAs, TellsAs, with_record};
+ghost use Rattle.switch_journal.specs.Commits.{Begins, BeginsAgain, entry_writes, gate_writes, paths_of_ready, ready_with};
+ghost use Rattle.switch_journal.specs.Texts.{IsBeforeOrAfter, IsOldOrSame, Journal, RestsAs, with_record};
 
 use crate::places::{gate_path_of, record_path_of};
 use crash_disk::calls::sync;
@@ -32,7 +31,7 @@ pub fn make_ready(
     bytes: Items<u8>,
     writes: Items<Write>,
 ) -> Result<Ready, OutOfMemory>
-    requires { number < 2 ^ 63 }
+    requires { number ≤ 2 ^ 63 }
     ensures { IfOk result (λ ready. ready ≡ ready_with number bytes writes) }
 {
     let entry = make_entry(alloc, number, bytes)?;
@@ -45,7 +44,7 @@ pub fn make_ready(
 }
 
 fn make_entry(alloc: Global, number: u64, bytes: Items<u8>) -> Result<Items<Write>, OutOfMemory>
-    requires { number < 2 ^ 63 }
+    requires { number ≤ 2 ^ 63 }
     ensures { IfOk result (λ writes. writes ≡ entry_writes number bytes) }
 {
     let next_gate = gate_path_of(alloc, number + 1)?;
@@ -76,7 +75,6 @@ fn make_gate(alloc: Global, number: u64) -> Result<Items<Write>, OutOfMemory>
 
 /// Commits a record. It gives up at the first failure; then the journal has to be opened again.
 pub fn commit<D: Disk>(disk: &mut D, ready: &Ready) -> Result<(), Failed>
-    requires { IsTrue (list_all is_outside ready.now.writes) }
     ensures cause { Fails D.Disk disk.old disk.new result }
     ensures touches { Touches D.Disk (paths_of_ready ready.now) disk.old disk.new }
     // A stop at any moment leaves the journal from before, or the one with the record.
@@ -93,13 +91,12 @@ pub fn commit<D: Disk>(disk: &mut D, ready: &Ready) -> Result<(), Failed>
 
 /// Makes up for a stop: all that was written is made durable, and the last record's work is done again.
 pub fn redo<D: Disk>(disk: &mut D, last: &[Write]) -> Result<(), Failed>
-    requires { IsTrue (list_all is_outside last.now) }
     ensures cause { Fails D.Disk disk.old disk.new result }
     ensures touches { Touches D.Disk (paths_of last.now) disk.old disk.new }
     // A stop at any moment leaves what one before might have left, or what reads as the same journal.
-    ensures crash { (j : Journal) → last.now ≡ j.last → TellsAs j (D.told disk.old)
+    ensures crash { (j : Journal) → BeginsAgain j last.now (D.told disk.old)
         → StopsLeave D.Disk (IsOldOrSame j (D.told disk.old)) disk.old disk.new }
-    ensures done { OnOk result ((j : Journal) → last.now ≡ j.last → TellsAs j (D.told disk.old)
+    ensures done { OnOk result ((j : Journal) → BeginsAgain j last.now (D.told disk.old)
         → RestsAs j (D.told disk.new)) }
 {
     sync(disk)?;

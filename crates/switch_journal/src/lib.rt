@@ -4,13 +4,17 @@
 
 mod commits;
 mod gated;
+mod journal;
 mod laws;
 mod places;
 mod request;
 mod slots;
+mod snapshots;
+mod steps;
 
 pub use commits::{Ready, commit, make_ready, redo};
 pub use gated::{Gated, read_record, read_slot};
+pub use journal::{Journal, RECORDS_TO_SLOT};
 pub use laws::{
     a_journal_is_read_by_its_files, readings_are_determined, readings_are_of_the_journal,
     records_are_determined,

@@ -1,5 +1,5 @@
 // The writing of a slot.
-ghost use Rattle.std.specs.Prelude.{◌≡◌, ◌+◌, ◌<◌, ◌≤◌, ◌-◌, ◌^◌, ℕ, List, Bool, IfOk, OnOk};
+ghost use Rattle.std.specs.Prelude.{◌≡◌, ◌+◌, ◌≤◌, ◌-◌, ◌^◌, ℕ, List, Bool, IfOk, OnOk};
 ghost use Rattle.crash_disk.specs.Effects.{Fails, Touches};
 ghost use Rattle.crash_disk.specs.Stops.{StopsLeave};
 ghost use Rattle.switch_journal.specs.Slots.{IsSlotStage, SlotBegins, old_writes, paths_of_slot, ready_slot, shut_writes, slot_gate_writes, slot_writes, slot_written};
@@ -34,7 +34,7 @@ pub fn make_slot(
     first: u64,
     count: u64,
 ) -> Result<ReadySlot, OutOfMemory>
-    requires { first + count < 2 ^ 63 }
+    requires { first + count ≤ 2 ^ 63 }
     ensures { IfOk result (λ ready. ready ≡ ready_slot slot is_open text first count) }
 {
     let shut = make_shut(alloc, slot, is_open)?;
@@ -88,7 +88,7 @@ fn make_slot_gate(alloc: Global, slot: bool) -> Result<Items<Write>, OutOfMemory
 }
 
 fn make_old(alloc: Global, first: u64, count: u64) -> Result<Items<Write>, OutOfMemory>
-    requires { first + count < 2 ^ 63 }
+    requires { first + count ≤ 2 ^ 63 }
     ensures { IfOk result (λ writes. writes ≡ old_writes first count) }
 {
     let mut writes = Items::new(alloc);
