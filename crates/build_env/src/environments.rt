@@ -1,35 +1,37 @@
 // The environment of a job.
 ghost use Rattle.std.specs.Prelude.{◌≡◌, ◌++◌, IfOk, OnOk, codes, string_bytes};
 ghost use Rattle.build_env.specs.Environments as env_of;
+ghost use Rattle.build_env.specs.Seen as seen;
 
 use crate::Export;
+use crate::job_names::asked_by_export;
+use crate::members::vars_seen;
 use opam_filter::{Vars, expand};
 use opam_names::{Items, Name, OutOfMemory, Pkg, Text};
-use opam_package::EnvUpdate;
+use opam_package::{EnvUpdate, Package};
 use opam_syntax::EnvOp;
-use package_vars::{Facts, View, vars_for};
+use package_vars::Facts;
 use std::alloc::Global;
 use std::collections::BTreeMap;
 
-/// What is handed in, the switch and the package, the exports, and the updates of the package itself, one after another.
+/// What is handed in, the switch and the package, the exports, and the updates of the package itself under its variables,
+/// one after another.
 pub(crate) fn environment(
     alloc: Global,
     facts: &Facts,
-    view: &View,
-    asked: &[Name],
-    pkg: &Pkg,
+    named: &BTreeMap<Name, Pkg>,
+    vars: &Vars,
+    built: &Package,
     exports: &[Export],
-    own: &[EnvUpdate],
 ) -> Result<Items<(Text, Text)>, OutOfMemory>
-    ensures { IfOk result (λ env. env ≡ env_of.environment_of
-        facts.now view.now asked.now pkg.now exports.now own.now) }
+    ensures { IfOk result (λ env. env ≡ seen.environment_seen
+        facts.now named.now.entries vars.now built.now exports.now) }
 {
     let mut env = BTreeMap::new(alloc);
     set_pairs(alloc, &mut env, facts.env.as_slice())?;
-    set_package(alloc, &mut env, facts.prefix.as_str(), pkg)?;
-    set_exports(alloc, &mut env, facts, view, asked, exports)?;
-    let vars = vars_for(alloc, facts, view, pkg, asked)?;
-    set_updates(alloc, &mut env, &vars, own)?;
+    set_package(alloc, &mut env, facts.prefix.as_str(), &built.pkg)?;
+    set_exports(alloc, &mut env, facts, named, exports)?;
+    set_updates(alloc, &mut env, vars, built.build_env.as_slice())?;
     Ok(Items::from_vec(env.into_iter().collect(alloc)?))
 }
 
@@ -168,20 +170,36 @@ fn set_package(
     set_text(alloc, env, "OPAM_PACKAGE_VERSION", pkg.version.as_str())
 }
 
+fn set_export(
+    alloc: Global,
+    env: &mut BTreeMap<Text, Text>,
+    facts: &Facts,
+    named: &BTreeMap<Name, Pkg>,
+    export: &Export,
+) -> Result<(), OutOfMemory>
+    ensures { OnOk result (env.new.entries ≡ seen.with_export_seen
+        facts.now named.now.entries env.old.entries export.now) }
+{
+    if export.updates.is_empty() {
+        return Ok(());
+    }
+    let asked = asked_by_export(alloc, export)?;
+    let vars = vars_seen(alloc, facts, named, &export.pkg, asked.as_slice())?;
+    set_updates(alloc, env, &vars, export.updates.as_slice())
+}
+
 fn set_exports(
     alloc: Global,
     env: &mut BTreeMap<Text, Text>,
     facts: &Facts,
-    view: &View,
-    asked: &[Name],
+    named: &BTreeMap<Name, Pkg>,
     exports: &[Export],
 ) -> Result<(), OutOfMemory>
-    ensures { OnOk result (env.new.entries ≡ env_of.with_exports
-        facts.now view.now asked.now env.old.entries exports.now) }
+    ensures { OnOk result (env.new.entries ≡ seen.with_exports_seen
+        facts.now named.now.entries env.old.entries exports.now) }
 {
     for export in exports {
-        let vars = vars_for(alloc, facts, view, &export.pkg, asked)?;
-        set_updates(alloc, env, &vars, export.updates.as_slice())?;
+        set_export(alloc, env, facts, named, export)?;
     }
     Ok(())
 }

@@ -2,6 +2,7 @@
 ghost use Rattle.std.specs.List.{flat_map};
 ghost use Rattle.std.specs.Prelude.{◌≡◌, ◌++◌, IfOk, OnOk};
 ghost use Rattle.build_env.specs.JobNames as names;
+ghost use Rattle.build_env.specs.Seen as seen;
 
 use crate::Export;
 use opam_filter::{Filter, asked, asked_in};
@@ -10,18 +11,22 @@ use opam_package::{Arg, Command, EnvUpdate, Package, Word};
 use opam_syntax::{Var, Word as VarWord};
 use std::alloc::Global;
 
-/// The names with which the commands of a package, its own updates and the exports that it sees look up variables.
-pub(crate) fn asked_by_job(
-    alloc: Global,
-    built: &Package,
-    exports: &[Export],
-) -> Result<Items<Name>, OutOfMemory>
-    ensures { IfOk result (λ found. found ≡ names.asked_by_job built.now exports.now) }
+/// The names with which the commands of a package and its own updates look up variables.
+pub(crate) fn asked_by_own(alloc: Global, built: &Package) -> Result<Items<Name>, OutOfMemory>
+    ensures { IfOk result (λ found. found ≡ seen.asked_by_own built.now) }
 {
     let mut found = Items::new(alloc);
     add_commands(alloc, &mut found, built.commands.as_slice())?;
     add_updates(alloc, &mut found, built.build_env.as_slice())?;
-    add_exports(alloc, &mut found, exports)?;
+    Ok(found)
+}
+
+/// The same of the updates of an export.
+pub(crate) fn asked_by_export(alloc: Global, export: &Export) -> Result<Items<Name>, OutOfMemory>
+    ensures { IfOk result (λ found. found ≡ names.asked_by_export export.now) }
+{
+    let mut found = Items::new(alloc);
+    add_updates(alloc, &mut found, export.updates.as_slice())?;
     Ok(found)
 }
 
@@ -129,19 +134,6 @@ fn add_updates(
 {
     for update in updates {
         add_text(alloc, found, update.value.as_str())?;
-    }
-    Ok(())
-}
-
-fn add_exports(
-    alloc: Global,
-    found: &mut Items<Name>,
-    exports: &[Export],
-) -> Result<(), OutOfMemory>
-    ensures { OnOk result (found.new ≡ found.old ++ flat_map names.asked_by_export exports.now) }
-{
-    for export in exports {
-        add_updates(alloc, found, export.updates.as_slice())?;
     }
     Ok(())
 }

@@ -6,12 +6,15 @@ ghost use Rattle.build_env.specs.Jobs as job;
 
 use crate::Export;
 use crate::environments::environment;
-use crate::job_names::asked_by_job;
-use opam_filter::{Filter, Truth, VarValue, Vars, eval, expand, value_at};
+use crate::job_names::asked_by_own;
+use crate::members::{by_name, vars_seen};
+use opam_filter::{
+    Filter, Truth, VarValue, Vars, asked_is_enough, eval, expand, names_rise, value_at,
+};
 use opam_names::{Items, OutOfMemory, Text};
 use opam_package::{Arg, Command, Package, Word};
 use outside_io::Job;
-use package_vars::{Facts, View, vars_for};
+use package_vars::{Facts, View, scopes_are_enough};
 use std::alloc::Global;
 
 /// What is to be done for a package: its commands under its variables, and their environment. The exports are those of
@@ -25,15 +28,17 @@ pub fn job_for(
 ) -> Result<Job, OutOfMemory>
     ensures { IfOk result (λ made. made ≡ job.build_job built.now view.now exports.now facts.now) }
 {
-    let asked = asked_by_job(alloc, built, exports)?;
-    let names = asked.as_slice();
-    let vars = vars_for(alloc, facts, view, &built.pkg, names)?;
-    let own = built.build_env.as_slice();
+    asked_is_enough();
+    scopes_are_enough();
+    names_rise();
+    let named = by_name(alloc, view.members.as_slice())?;
+    let asked = asked_by_own(alloc, built)?;
+    let vars = vars_seen(alloc, facts, &named, &built.pkg, asked.as_slice())?;
     Ok(Job {
         pkg: built.pkg.copy(alloc)?,
         source: copy_source(alloc, &built.source)?,
         commands: commands_of(alloc, &vars, built.commands.as_slice())?,
-        env: environment(alloc, facts, view, names, &built.pkg, exports, own)?,
+        env: environment(alloc, facts, &named, &vars, built, exports)?,
     })
 }
 

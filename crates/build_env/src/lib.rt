@@ -6,6 +6,9 @@ mod environments;
 mod export;
 mod job_names;
 mod jobs;
+mod laws;
+mod members;
 
 pub use export::Export;
 pub use jobs::job_for;
+pub use laws::environment_is_of_exports;
