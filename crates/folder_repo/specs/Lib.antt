@@ -1,0 +1,2 @@
+pub mod OpamPaths
+pub mod Repository
