@@ -1,0 +1,9 @@
+pub mod Places
+pub mod Reach
+pub mod Links
+pub mod Views
+pub mod Order
+pub mod Plans
+pub mod Found
+pub mod Listing
+pub mod GraphLaws

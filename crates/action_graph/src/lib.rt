@@ -1,0 +1,19 @@
+//! In which order packages are installed, and what the build of each sees of the others.
+#![tactic(auto)]
+
+mod installs;
+mod laws;
+mod links;
+mod listing;
+mod marks;
+mod plan;
+mod reach;
+mod ready;
+mod rows;
+mod views;
+
+pub use installs::order;
+pub use laws::{needs_come_first, order_is_one, reached_is_least};
+pub use package_vars::View;
+pub use plan::{PlanFault, Step};
+pub use views::view_of;
