@@ -9,12 +9,15 @@ mod installs;
 mod package_show;
 mod packages;
 mod reads;
+mod repository;
 mod trees;
 mod variables;
 
 use opam_filter::Vars;
 use package_vars::Facts;
 use row_script::answers::{as_it_is, stands_for_itself, with_answer};
+use row_script::devices;
+use row_script::devices::Devices;
 use row_script::fault::Fault;
 use row_script::script::read_call;
 use std::alloc::Global;
@@ -27,6 +30,7 @@ fn main(rt: HostRuntime) -> io::Result<()> {
     let mut world = World {
         vars: Vars::empty(alloc),
         facts: no_facts(alloc),
+        devices: Devices::new(alloc),
     };
     let mut out = BufWriter::new(alloc, io::writer(&rt))?;
     for line in BufReader::new(alloc, rt.reader())?.split(alloc, b'\n') {
@@ -47,6 +51,7 @@ fn main(rt: HostRuntime) -> io::Result<()> {
 struct World {
     vars: Vars,
     facts: Facts,
+    devices: Devices,
 }
 
 // Each module answers the calls of one crate.
@@ -65,6 +70,12 @@ fn answer(alloc: Global, line: &[u8], world: &mut World) -> Result<Option<String
         return Ok(Some(text));
     }
     if let Some(text) = packages::answer(alloc, call, &world.vars)? {
+        return Ok(Some(text));
+    }
+    if let Some(text) = devices::answer(alloc, call, &mut world.devices)? {
+        return Ok(Some(text));
+    }
+    if let Some(text) = repository::answer(alloc, call, &mut world.devices, &world.vars)? {
         return Ok(Some(text));
     }
     variables::answer(alloc, call, &mut world.facts)

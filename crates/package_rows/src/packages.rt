@@ -138,7 +138,8 @@ fn show_copy(
     part_of(alloc, &copy, part)
 }
 
-fn refused(alloc: Global, fault: PackageFault) -> Result<String, Fault> {
+/// Why a file is none of a package.
+pub fn refused(alloc: Global, fault: PackageFault) -> Result<String, Fault> {
     let (what, span) = match fault {
         PackageFault::Filter(fault) => return faulty(alloc, fault),
         PackageFault::WrongKind { span } => ("the wrong kind", span),
@@ -158,7 +159,8 @@ fn refused(alloc: Global, fault: PackageFault) -> Result<String, Fault> {
     Ok(format!(in alloc; "{what} at {start}-{end}")?)
 }
 
-fn part_of(alloc: Global, package: &Package, part: &Word) -> Result<String, Fault> {
+/// A part of what a file says.
+pub fn part_of(alloc: Global, package: &Package, part: &Word) -> Result<String, Fault> {
     match part.text()? {
         "depends" => all_needs(alloc, package.items.as_slice()),
         "depopts" => all_atoms(alloc, package.depopts.as_slice()),
