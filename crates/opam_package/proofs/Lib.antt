@@ -1,7 +1,6 @@
 mod EdgeLaws
 mod FieldSound
 mod FirstFaults
-mod Naming
 mod SafePaths
 mod Slashes
 mod Sound
@@ -9,3 +8,4 @@ mod TextFaults
 mod Told
 mod ToldFirst
 mod Utf8
+mod Wished

@@ -4,6 +4,8 @@ use Rattle.std.specs.List.{flat_map}
 use Rattle.opam_names.specs.declared.packages.Pkg.{Pkg}
 use Rattle.opam_syntax.specs.Files.{Contents, FieldContents, SectionContents}
 use Rattle.opam_syntax.specs.Signs.{begins_with}
+use Rattle.opam_syntax.specs.Trees.{items_of}
+use Rattle.opam_syntax.specs.declared.file.File.{File}
 use Rattle.opam_syntax.specs.declared.tree.Node.{Node}
 use Rattle.opam_package.specs.declared.fault.PackageFault.{PackageFault}
 use Rattle.opam_package.specs.declared.fault.PackageFault.TheVariants.{Mismatch, OpamVersion}
@@ -56,6 +58,10 @@ abbrev pub item_faults : Pkg → List ℕ → Contents → List PackageFault
 item_faults pkg name (FieldContents value) = field_faults pkg name value
 item_faults pkg name (SectionContents fields) = section_faults name fields
 
--- all faults of a file that is to be that of a package
+-- all faults of items that are to be those of a package
 abbrev pub file_faults : Pkg → FileItems → List PackageFault
 file_faults pkg items = flat_map (λ item. item_faults pkg item.0.name item.1) items
+
+-- the same of a file
+abbrev pub faults_of_file : Pkg → File → List PackageFault
+faults_of_file pkg file = file_faults pkg (items_of file)

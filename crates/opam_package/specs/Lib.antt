@@ -8,6 +8,8 @@ pub mod PartPaths
 pub mod Fields
 pub mod FieldFaults
 pub mod Packages
+pub mod Readings
 pub mod Dependencies
+pub mod Wishes
 pub mod PackageLaws
 pub mod PackageTexts

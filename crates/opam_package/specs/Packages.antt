@@ -8,6 +8,8 @@ use Rattle.std.specs.declared.option.Option.TheVariants.{None, Some}
 use Rattle.opam_names.specs.declared.packages.Pkg.{Pkg}
 use Rattle.opam_syntax.specs.Files.{Contents, FieldContents, SectionContents}
 use Rattle.opam_syntax.specs.Signs.{begins_with}
+use Rattle.opam_syntax.specs.Trees.{items_of}
+use Rattle.opam_syntax.specs.declared.file.File.{File}
 use Rattle.opam_syntax.specs.declared.file.Key.{Key}
 use Rattle.opam_syntax.specs.declared.tree.Node.{Node}
 use Rattle.opam_filter.specs.Reductions.{reduced}
@@ -20,6 +22,8 @@ use Rattle.opam_filter.specs.Variables.{Values}
 use Rattle.opam_filter.specs.declared.formula.Formula.{Formula}
 use Rattle.opam_filter.specs.declared.formula.Reduced.{Reduced}
 use Rattle.opam_filter.specs.declared.truth.VarValue.TheVariants.{Flag, Text}
+use Rattle.opam_package.specs.declared.package.Command.{Command}
+use Rattle.opam_package.specs.declared.package.EnvUpdate.{EnvUpdate}
 use Rattle.opam_package.specs.declared.package.Need.{Need}
 use Rattle.opam_package.specs.declared.package.Package.{Package}
 use Rattle.opam_package.specs.Commands.{commands_of}
@@ -116,22 +120,58 @@ with_refused names items = fold with_once names (map (λ item. item.0.name) (fil
 abbrev pub refused_names : FileItems → List (List ℕ)
 refused_names items = with_refused [] items
 
--- the package that a file without faults is of
+-- the needs of `depends`
+abbrev pub depends_in : Values → FileItems → List Need
+depends_in values items = listed (needs_of values) (field_of (codes "depends") items)
+
+-- the atoms of a field, each alone
+abbrev pub atoms_in : Values → List ℕ → FileItems → List Reduced
+atoms_in values name items = listed (atoms_of values) (field_of name items)
+
+-- the texts of `conflict-class`
+abbrev pub classes_in : FileItems → List (List ℕ)
+classes_in items = listed texts_of (field_of (codes "conflict-class") items)
+
+-- the answer of `available`
+abbrev pub availability_in : Values → FileItems → Bool
+availability_in values items = is_available values (field_of (codes "available") items)
+
+-- the commands of `build`
+abbrev pub commands_in : FileItems → List Command
+commands_in items = listed commands_of (field_of (codes "build") items)
+
+-- the updates of a field
+abbrev pub updates_in : List ℕ → FileItems → List EnvUpdate
+updates_in name items = listed updates_of (field_of name items)
+
+-- the paths of `substs`
+abbrev pub substs_in : FileItems → List (List ℕ)
+substs_in items = listed substs_of (field_of (codes "substs") items)
+
+-- the text of `synopsis`
+abbrev pub synopsis_in : FileItems → Option (List ℕ)
+synopsis_in items = option_map text_of (field_of (codes "synopsis") items)
+
+-- the package that items without faults are of
 abbrev pub package_in : Pkg → Values → FileItems → Package
 package_in pkg globals items =
     let values = own_values pkg globals in
     record {
       pkg = pkg;
-      items = listed (needs_of values) (field_of (codes "depends") items);
-      depopts = listed (atoms_of (reading_values true false values)) (field_of (codes "depopts") items);
-      conflicts = listed (atoms_of (reading_values true true values)) (field_of (codes "conflicts") items);
-      classes = listed texts_of (field_of (codes "conflict-class") items);
-      available = is_available values (field_of (codes "available") items);
+      items = depends_in values items;
+      depopts = atoms_in (reading_values true false values) (codes "depopts") items;
+      conflicts = atoms_in (reading_values true true values) (codes "conflicts") items;
+      classes = classes_in items;
+      available = availability_in values items;
       refused = refused_names items;
-      commands = listed commands_of (field_of (codes "build") items);
-      exports = listed updates_of (field_of (codes "setenv") items);
-      build_env = listed updates_of (field_of (codes "build-env") items);
-      substs = listed substs_of (field_of (codes "substs") items);
+      commands = commands_in items;
+      exports = updates_in (codes "setenv") items;
+      build_env = updates_in (codes "build-env") items;
+      substs = substs_in items;
       source = source_of items;
-      synopsis = option_map text_of (field_of (codes "synopsis") items);
+      synopsis = synopsis_in items;
     }
+
+-- the same of a file
+abbrev pub package_of_file : Pkg → Values → File → Package
+package_of_file pkg globals file = package_in pkg globals (items_of file)

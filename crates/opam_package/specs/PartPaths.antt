@@ -1,5 +1,5 @@
 -- A word of private clauses alone: how a path grows, part after part.
-use Rattle.std.specs.Prelude.{ℕ, List, [], ◌∷◌, ◌++◌, codes, if◌then◌else◌}
+use Rattle.std.specs.Prelude.{ℕ, List, [], ◌∷◌, ◌++◌, codes, fold, if◌then◌else◌}
 use Rattle.opam_package.specs.Relatives.{counts}
 
 -- a part stands behind those that are there
@@ -10,3 +10,7 @@ put_behind (b ∷ path) part = (b ∷ path) ++ codes "/" ++ part
 -- where it counts
 abbrev pub with_part : List ℕ → List ℕ → List ℕ
 with_part path part = if counts part then put_behind path part else path
+
+-- parts put behind one another
+abbrev pub put_all : List (List ℕ) → List ℕ
+put_all parts = fold with_part [] parts

@@ -1,9 +1,9 @@
 // What is wrong with an opam file.
 ghost use Rattle.std.specs.Prelude.{◌≡◌, IfOk};
-ghost use Rattle.opam_syntax.specs.Trees.{contents_of, items_of};
 ghost use Rattle.opam_package.specs.FieldFaults as faults;
 ghost use Rattle.opam_package.specs.Forms as forms;
 ghost use Rattle.opam_package.specs.PackageFaults.{first_fault};
+ghost use Rattle.opam_package.specs.Readings.{entry_faults};
 
 use crate::PackageFault;
 use crate::command_faults::commands_fault;
@@ -72,7 +72,7 @@ fn field_fault(
     name: &str,
     node: &Node,
 ) -> Result<Option<PackageFault>, OutOfMemory>
-    ensures { IfOk result (λ fault. fault ≡ first_fault (faults.field_faults pkg.now name.now node.now)) }
+    ensures { IfOk result (λ f. f ≡ first_fault (faults.field_faults pkg.now name.now node.now)) }
 {
     match name {
         "opam-version" => Ok(format_fault(node)),
@@ -92,8 +92,8 @@ fn field_fault(
     }
 }
 
-// Of sections `src` in `url` alone is read.
-fn section_fault(name: &str, section: &IndexMap<Word, Node>) -> Option<PackageFault>
+/// The first fault of a section, of which `src` in `url` alone is read.
+pub fn section_fault(name: &str, section: &IndexMap<Word, Node>) -> Option<PackageFault>
     ensures { result ≡ first_fault (faults.section_faults name.now section.now.entries) }
 {
     if name != "url" {
@@ -111,7 +111,7 @@ fn item_fault(
     name: &str,
     item: &Item,
 ) -> Result<Option<PackageFault>, OutOfMemory>
-    ensures { IfOk result (λ fault. fault ≡ first_fault (faults.item_faults pkg.now name.now (contents_of item.now))) }
+    ensures { IfOk result (λ f. f ≡ first_fault (entry_faults pkg.now name.now item.now)) }
 {
     match item {
         Item::Field(node) => field_fault(alloc, pkg, name, node),
@@ -121,12 +121,12 @@ fn item_fault(
 
 /// The first fault of a file that is to be that of a package.
 #[tactic(auto, using(crate::proofs::FirstFaults::first_then))]
-pub(crate) fn file_fault(
+pub fn file_fault(
     alloc: Global,
     pkg: &Pkg,
     file: &File,
 ) -> Result<Option<PackageFault>, OutOfMemory>
-    ensures { IfOk result (λ fault. fault ≡ first_fault (faults.file_faults pkg.now (items_of file.now))) }
+    ensures { IfOk result (λ fault. fault ≡ first_fault (faults.faults_of_file pkg.now file.now)) }
 {
     let mut first = None;
     for (key, item) in &file.items {

@@ -8,7 +8,7 @@ use indexmap::IndexMap;
 use opam_syntax::{File, Item, Node, Word};
 
 /// The value of the field of this name at the top of a file.
-pub(crate) fn field_of<'a>(file: &'a File, name: &str) -> Option<&'a Node>
+pub fn field_of<'a>(file: &'a File, name: &str) -> Option<&'a Node>
     ensures { option_copied result ≡ fields.field_of name.now (items_of file.now) }
 {
     for (key, item) in &file.items {

@@ -8,6 +8,8 @@ ghost use Rattle.opam_filter.specs.Trees.{read};
 ghost use Rattle.opam_filter.specs.declared.truth.VarValue.TheVariants.{Flag, Text as Told};
 ghost use Rattle.opam_package.specs.Forms.{filter_faults, formula_faults, formulas_faults};
 ghost use Rattle.opam_package.specs.Packages as packages;
+ghost use Rattle.opam_package.specs.Packages.{reading_values};
+ghost use Rattle.opam_package.specs.Readings.{need_under};
 
 use crate::Need;
 use crate::commands::build_filter;
@@ -48,7 +50,7 @@ pub(crate) fn reading_vars(
     post: bool,
     vars: &Vars,
 ) -> Result<Vars, OutOfMemory>
-    ensures { IfOk result (λ all. all ≡ packages.reading_values build post vars.now) }
+    ensures { IfOk result (λ all. all ≡ reading_values build post vars.now) }
 {
     let mut all = vars.copy(alloc)?;
     set_value(alloc, &mut all, "build", VarValue::Flag(build))?;
@@ -65,9 +67,9 @@ pub(crate) struct Readings {
 }
 
 pub(crate) fn make_readings(alloc: Global, vars: &Vars) -> Result<Readings, OutOfMemory>
-    ensures runtime { IfOk result (λ all. all.runtime ≡ packages.reading_values false false vars.now) }
-    ensures building { IfOk result (λ all. all.building ≡ packages.reading_values true false vars.now) }
-    ensures full { IfOk result (λ all. all.full ≡ packages.reading_values true true vars.now) }
+    ensures runtime { IfOk result (λ all. all.runtime ≡ reading_values false false vars.now) }
+    ensures building { IfOk result (λ all. all.building ≡ reading_values true false vars.now) }
+    ensures full { IfOk result (λ all. all.full ≡ reading_values true true vars.now) }
 {
     Ok(Readings {
         runtime: reading_vars(alloc, false, false, vars)?,
@@ -90,7 +92,7 @@ fn build_formula(alloc: Global, node: &Node) -> Result<Formula, OutOfMemory>
 
 fn build_need(alloc: Global, node: &Node, readings: &Readings) -> Result<Need, OutOfMemory>
     requires { formula_faults node.now ≡ [] }
-    ensures { IfOk result (λ need. need ≡ packages.need_by readings.now.runtime readings.now.building readings.now.full node.now) }
+    ensures { IfOk result (λ need. need ≡ need_under readings.now node.now) }
 {
     let formula = build_formula(alloc, node)?;
     Ok(Need {
@@ -106,7 +108,7 @@ fn build_needs_by(
     readings: &Readings,
 ) -> Result<Items<Need>, OutOfMemory>
     requires { flat_map formula_faults nodes.now ≡ [] }
-    ensures { IfOk result (λ needs. needs ≡ map (packages.need_by readings.now.runtime readings.now.building readings.now.full) nodes.now) }
+    ensures { IfOk result (λ needs. needs ≡ map (need_under readings.now) nodes.now) }
 {
     let mut needs = Items::new(alloc);
     for node in nodes {
@@ -158,7 +160,7 @@ pub(crate) fn build_atoms(
 /// Whether the filter is Yes.
 pub(crate) fn build_available(alloc: Global, node: &Node, vars: &Vars) -> Result<bool, OutOfMemory>
     requires { filter_faults node.now ≡ [] }
-    ensures { IfOk result (λ available. available ≡ packages.is_available vars.now (Some node.now)) }
+    ensures { IfOk result (λ is. is ≡ packages.is_available vars.now (Some node.now)) }
 {
     let filter = build_filter(alloc, node)?;
     Ok(eval(alloc, &filter, vars)? == Truth::Yes)

@@ -1,15 +1,15 @@
 // The package that a file is of, field by field.
-ghost use Rattle.std.specs.Option.{option_map};
 ghost use Rattle.std.specs.Prelude.{[], ◌≡◌, IfErr, IfOk, OnOk, codes};
 ghost use Rattle.opam_syntax.specs.Trees.{items_of};
-ghost use Rattle.opam_package.specs.Commands.{commands_faults, commands_of};
-ghost use Rattle.opam_package.specs.FieldFaults.{file_faults};
+ghost use Rattle.opam_package.specs.Commands.{commands_faults};
+ghost use Rattle.opam_package.specs.FieldFaults.{faults_of_file};
 ghost use Rattle.opam_package.specs.Fields.{field_of, listed};
-ghost use Rattle.opam_package.specs.Forms.{filter_faults, formula_faults, formulas_faults, text_faults, text_of, texts_faults, texts_of};
+ghost use Rattle.opam_package.specs.Forms.{filter_faults, formula_faults, formulas_faults, text_faults, texts_faults};
 ghost use Rattle.opam_package.specs.PackageFaults.{IsFirstOf};
 ghost use Rattle.opam_package.specs.Packages as packages;
-ghost use Rattle.opam_package.specs.Relatives.{substs_faults, substs_of};
-ghost use Rattle.opam_package.specs.Updates.{updates_faults, updates_of};
+ghost use Rattle.opam_package.specs.Packages.{package_of_file};
+ghost use Rattle.opam_package.specs.Relatives.{substs_faults};
+ghost use Rattle.opam_package.specs.Updates.{updates_faults};
 
 use crate::commands::build_commands;
 use crate::field_faults::file_fault;
@@ -27,7 +27,7 @@ use std::alloc::Global;
 
 fn depends_of(alloc: Global, file: &File, vars: &Vars) -> Result<Items<Need>, OutOfMemory>
     requires { listed formulas_faults (field_of (codes "depends") (items_of file.now)) ≡ [] }
-    ensures { IfOk result (λ needs. needs ≡ listed (packages.needs_of vars.now) (field_of (codes "depends") (items_of file.now))) }
+    ensures { IfOk result (λ needs. needs ≡ packages.depends_in vars.now (items_of file.now)) }
 {
     match field_of(file, "depends") {
         None => Ok(Items::new(alloc)),
@@ -43,7 +43,7 @@ fn atoms_of(
     vars: &Vars,
 ) -> Result<Items<Reduced>, OutOfMemory>
     requires { listed formula_faults (field_of name.now (items_of file.now)) ≡ [] }
-    ensures { IfOk result (λ atoms. atoms ≡ listed (packages.atoms_of vars.now) (field_of name.now (items_of file.now))) }
+    ensures { IfOk result (λ all. all ≡ packages.atoms_in vars.now name.now (items_of file.now)) }
 {
     match field_of(file, name) {
         None => Ok(Items::new(alloc)),
@@ -53,7 +53,7 @@ fn atoms_of(
 
 fn classes_of(alloc: Global, file: &File) -> Result<Items<Text>, OutOfMemory>
     requires { listed texts_faults (field_of (codes "conflict-class") (items_of file.now)) ≡ [] }
-    ensures { IfOk result (λ texts. texts ≡ listed texts_of (field_of (codes "conflict-class") (items_of file.now))) }
+    ensures { IfOk result (λ texts. texts ≡ packages.classes_in (items_of file.now)) }
 {
     match field_of(file, "conflict-class") {
         None => Ok(Items::new(alloc)),
@@ -63,7 +63,7 @@ fn classes_of(alloc: Global, file: &File) -> Result<Items<Text>, OutOfMemory>
 
 fn is_available(alloc: Global, file: &File, vars: &Vars) -> Result<bool, OutOfMemory>
     requires { listed filter_faults (field_of (codes "available") (items_of file.now)) ≡ [] }
-    ensures { IfOk result (λ available. available ≡ packages.is_available vars.now (field_of (codes "available") (items_of file.now))) }
+    ensures { IfOk result (λ is. is ≡ packages.availability_in vars.now (items_of file.now)) }
 {
     match field_of(file, "available") {
         None => Ok(true),
@@ -73,7 +73,7 @@ fn is_available(alloc: Global, file: &File, vars: &Vars) -> Result<bool, OutOfMe
 
 fn commands_of(alloc: Global, file: &File) -> Result<Items<Command>, OutOfMemory>
     requires { listed commands_faults (field_of (codes "build") (items_of file.now)) ≡ [] }
-    ensures { IfOk result (λ commands. commands ≡ listed commands_of (field_of (codes "build") (items_of file.now))) }
+    ensures { IfOk result (λ commands. commands ≡ packages.commands_in (items_of file.now)) }
 {
     match field_of(file, "build") {
         None => Ok(Items::new(alloc)),
@@ -83,7 +83,7 @@ fn commands_of(alloc: Global, file: &File) -> Result<Items<Command>, OutOfMemory
 
 fn updates_of(alloc: Global, file: &File, name: &str) -> Result<Items<EnvUpdate>, OutOfMemory>
     requires { listed updates_faults (field_of name.now (items_of file.now)) ≡ [] }
-    ensures { IfOk result (λ updates. updates ≡ listed updates_of (field_of name.now (items_of file.now))) }
+    ensures { IfOk result (λ updates. updates ≡ packages.updates_in name.now (items_of file.now)) }
 {
     match field_of(file, name) {
         None => Ok(Items::new(alloc)),
@@ -93,7 +93,7 @@ fn updates_of(alloc: Global, file: &File, name: &str) -> Result<Items<EnvUpdate>
 
 fn substs_of(alloc: Global, file: &File) -> Result<Items<RelPath>, OutOfMemory>
     requires { listed substs_faults (field_of (codes "substs") (items_of file.now)) ≡ [] }
-    ensures { IfOk result (λ paths. paths ≡ listed substs_of (field_of (codes "substs") (items_of file.now))) }
+    ensures { IfOk result (λ paths. paths ≡ packages.substs_in (items_of file.now)) }
 {
     match field_of(file, "substs") {
         None => Ok(Items::new(alloc)),
@@ -103,7 +103,7 @@ fn substs_of(alloc: Global, file: &File) -> Result<Items<RelPath>, OutOfMemory>
 
 fn synopsis_of(alloc: Global, file: &File) -> Result<Option<Text>, OutOfMemory>
     requires { listed text_faults (field_of (codes "synopsis") (items_of file.now)) ≡ [] }
-    ensures { IfOk result (λ synopsis. synopsis ≡ option_map text_of (field_of (codes "synopsis") (items_of file.now))) }
+    ensures { IfOk result (λ synopsis. synopsis ≡ packages.synopsis_in (items_of file.now)) }
 {
     match field_of(file, "synopsis") {
         None => Ok(None),
@@ -118,8 +118,8 @@ fn build_package(
     pkg: &Pkg,
     globals: &Vars,
 ) -> Result<Package, OutOfMemory>
-    requires { file_faults pkg.now (items_of file.now) ≡ [] }
-    ensures { IfOk result (λ found. found ≡ packages.package_in pkg.now globals.now (items_of file.now)) }
+    requires { faults_of_file pkg.now file.now ≡ [] }
+    ensures { IfOk result (λ found. found ≡ package_of_file pkg.now globals.now file.now) }
 {
     let vars = own_vars(alloc, pkg, globals)?;
     let building = reading_vars(alloc, true, false, &vars)?;
@@ -149,9 +149,9 @@ pub fn package_of(
     pkg: &Pkg,
     globals: &Vars,
 ) -> Result<Package, PackageFault>
-    ensures ok { IfOk result (λ found. found ≡ packages.package_in pkg.now globals.now (items_of file.now)) }
-    ensures sound { OnOk result (file_faults pkg.now (items_of file.now) ≡ []) }
-    ensures err { IfErr result (λ fault. IsFirstOf (file_faults pkg.now (items_of file.now)) fault) }
+    ensures ok { IfOk result (λ found. found ≡ package_of_file pkg.now globals.now file.now) }
+    ensures sound { OnOk result (faults_of_file pkg.now file.now ≡ []) }
+    ensures err { IfErr result (λ fault. IsFirstOf (faults_of_file pkg.now file.now) fault) }
 {
     match file_fault(alloc, pkg, file)? {
         Some(fault) => Err(fault),

@@ -1,9 +1,9 @@
 // Paths as they are written in opam files: empty parts and parts `.` do not count.
-ghost use Rattle.std.specs.Prelude.{[], ◌≡◌, IfOk, OnOk, fold, map, string_bytes};
+ghost use Rattle.std.specs.Prelude.{◌≡◌, IfOk, OnOk, map, string_bytes};
 ghost use Rattle.std.specs.List.{flat_map};
 ghost use Rattle.opam_names.specs.Paths.{parts};
 ghost use Rattle.opam_package.specs.PackageFaults.{first_fault};
-ghost use Rattle.opam_package.specs.PartPaths.{put_behind, with_part};
+ghost use Rattle.opam_package.specs.PartPaths.{put_all, put_behind, with_part};
 ghost use Rattle.opam_package.specs.Relatives as relatives;
 
 use crate::PackageFault;
@@ -49,7 +49,7 @@ fn put_part(path: &mut String, part: &str) -> Result<(), OutOfMemory>
 }
 
 fn put_parts(alloc: Global, parts: &[&str]) -> Result<String, OutOfMemory>
-    ensures { IfOk result (λ path. string_bytes path ≡ fold with_part [] (map (λ part. part.now) parts.now)) }
+    ensures { IfOk result (λ path. string_bytes path ≡ put_all (map (λ part. part.now) parts.now)) }
 {
     let mut path = String::new(alloc);
     for part in parts {

@@ -33,7 +33,8 @@ fn filter_rank(fault: FilterFault) -> u8
     }
 }
 
-fn fault_start(fault: PackageFault) -> u32
+/// Where a fault of a value stands, in bytes from the start of the text.
+pub fn fault_start(fault: PackageFault) -> u32
     ensures { result ≡ faults.fault_start fault }
 {
     match fault {

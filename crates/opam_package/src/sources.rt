@@ -98,7 +98,8 @@ fn is_refused_section(name: &str, section: &IndexMap<Word, Node>) -> bool
     }
 }
 
-fn is_refused(name: &str, item: &Item) -> bool
+/// Whether an item of this name keeps its package from being installed.
+pub fn is_refused(name: &str, item: &Item) -> bool
     ensures { result ≡ packages.is_refused name.now (contents_of item.now) }
 {
     match item {
