@@ -1,13 +1,12 @@
 -- One export more, one package of the view more.
-use Rattle.std.proofs.Common.{◌≡◌, ℕ, ◌+◌, ◌<◌, ◌≤◌, length, get_or, List, [], ◌∷◌, drop, take, sym, ap, subst, ◌∙◌}
+use Rattle.std.proofs.Common.{◌≡◌, ℕ, ◌+◌, ◌<◌, ◌≤◌, length, get_or, List, ◌∷◌, drop, take, sym, ap, subst, ◌∙◌}
 use Rattle.std.proofs.lemmas.List.{drop_more, take_all}
 use Rattle.std.proofs.lemmas.List.Elements.{All-more}
 use Rattle.opam_names.specs.Names.{IsName}
 use Rattle.opam_names.specs.declared.packages.Pkg.{Pkg}
 use Rattle.package_vars.specs.declared.facts.Facts.{Facts}
-use Rattle.build_env.specs.Environments.{Environment, with_updates}
-use Rattle.build_env.specs.JobNames.{asked_by_export}
-use Rattle.build_env.specs.Seen.{AreNamed, Named, by_name, values_seen, with_export_seen, with_exports_seen, with_member, with_members}
+use Rattle.build_env.specs.Environments.{Environment}
+use Rattle.build_env.specs.Seen.{AreNamed, Named, by_name, with_export_seen, with_exports_seen, with_member, with_members}
 use Rattle.build_env.specs.declared.export.Export.{Export}
 
 pub one_export : (facts : Facts) (named : Named) (before after : Environment) (exports : List Export) (i : ℕ) (export : Export)

@@ -6,6 +6,7 @@ mod files;
 mod filter_show;
 mod filters;
 mod installs;
+mod jobs;
 mod package_show;
 mod packages;
 mod reads;
@@ -70,6 +71,9 @@ fn answer(alloc: Global, line: &[u8], world: &mut World) -> Result<Option<String
         return Ok(Some(text));
     }
     if let Some(text) = packages::answer(alloc, call, &world.vars)? {
+        return Ok(Some(text));
+    }
+    if let Some(text) = jobs::answer(alloc, call, &world.facts)? {
         return Ok(Some(text));
     }
     if let Some(text) = devices::answer(alloc, call, &mut world.devices)? {
