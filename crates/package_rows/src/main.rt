@@ -7,6 +7,7 @@ mod filter_show;
 mod filters;
 mod installs;
 mod jobs;
+mod locks;
 mod package_show;
 mod packages;
 mod reads;
@@ -80,6 +81,9 @@ fn answer(alloc: Global, line: &[u8], world: &mut World) -> Result<Option<String
         return Ok(Some(text));
     }
     if let Some(text) = repository::answer(alloc, call, &mut world.devices, &world.vars)? {
+        return Ok(Some(text));
+    }
+    if let Some(text) = locks::answer(alloc, call, &world.vars)? {
         return Ok(Some(text));
     }
     variables::answer(alloc, call, &mut world.facts)

@@ -1,0 +1,7 @@
+use Rattle.std.proofs.Common.{◌≡◌, drop}
+use Rattle.std.specs.List.{list_all}
+use Rattle.lock_check.proofs.lock_items.are_all.Given as goal
+
+-- those that are left decide
+abbrev pub invariant-loop-flag : goal.invariant-loop-flag
+invariant-loop-flag l = list_all (λ flag. flag) (drop l.flag-index l.flags) ≡ list_all (λ flag. flag) l.flags

@@ -1,0 +1,3 @@
+pub mod LockFaults
+pub mod LockItems
+pub mod LockTexts
