@@ -1,120 +1,18 @@
 -- How many brackets and prefix operators are open is told by the tokens so far, whatever follows them.
-use Rattle.std.proofs.Common.{◌≡◌, ℕ, ◌<◌, ◌≤◌, ◌+◌, Bool, true, false, List, [], ◌∷◌, refl, sym, subst, ap, ◌∙◌, arith, max, if◌then◌else◌, ◌⊎◌, inl, inr}
-use Rattle.std.specs.Prelude.{nat_lt, ⊤}
+use Rattle.std.proofs.Common.{◌≡◌, ℕ, ◌<◌, ◌≤◌, ◌+◌, Bool, true, false, List, [], ◌∷◌, ◌++◌, refl, sym, subst, ap, ◌∙◌, arith, max, if◌then◌else◌, ◌⊎◌, inl, inr}
+use Rattle.std.specs.Prelude.{nat_lt, ⊤, ◌==◌, ◌&&◌, ◌||◌}
+use Rattle.std.specs.List.{list_any}
 use Rattle.std.proofs.lemmas.Bool.Decides.{nat_tests}
 use Rattle.std.specs.Option.{unwrap_or}
 use Rattle.std.specs.declared.option.Option.{Option}
 use Rattle.std.specs.declared.option.Option.TheVariants.{None, Some}
 use Rattle.opam_syntax.specs.declared.token.Token.{Token}
 use Rattle.opam_syntax.specs.declared.token.Token.TheVariants.{Flag, Int, Text, Plain, Scoped, Colon, OpenList, CloseList, OpenBraces, CloseBraces, OpenGroup, CloseGroup, Relation, Update, And, Or, Not, Defined}
+use Rattle.opam_syntax.specs.Heights.{OperandMode as Mode, Wanted, LeftRead, RightWanted, RightRead, KeptHeight as Kept, HeightState as State, operand_height as begin_at, begun_height as begin, mode_after as after, relation_height as relation_at, operand_read as read, bracket_opened as opened, bracket_closed as closed, operand_anew as anew, operand_prefixed as prefixed, relation_begun as related, height_step as step, token_height as height, NestsBelow as Below}
 use Rattle.opam_syntax.specs.Tokens.{Placed, placed}
 use Rattle.opam_syntax.specs.Nesting.{first_of, deeper}
-use Rattle.opam_syntax.specs.Faults.{is_opening}
-
--- what may come next in a value: an operand, the sign of a relation after its left side, its right side, or what stands after that
-pub data Mode : Type 0 where
-  Wanted : Mode
-  LeftRead : Mode
-  RightWanted : Mode
-  RightRead : Mode
-
--- what is known again where a bracket closes
-pub record Kept : Type 0 where
-  pub floor : ℕ
-  pub level : ℕ
-  pub mode : Mode
-
--- how many brackets are open, and how many with the prefix operators of the operand that is read
-pub record State : Type 0 where
-  pub floor : ℕ
-  pub level : ℕ
-  pub mode : Mode
-  pub kept : List Kept
-
-abbrev pub begin_at : Mode → ℕ → ℕ → ℕ
-begin_at Wanted floor level = level
-begin_at RightWanted floor level = level
-begin_at LeftRead floor level = floor
-begin_at RightRead floor level = floor
-
--- what begins here is nested so deep
-abbrev pub begin : State → ℕ
-begin s = begin_at s.mode s.floor s.level
-
-abbrev pub after : Mode → Mode
-after RightWanted = RightRead
-after Wanted = LeftRead
-after LeftRead = LeftRead
-after RightRead = LeftRead
-
--- a sign of a relation joins to what stands to its left, but not to a relation
-abbrev pub relation_at : Mode → ℕ → ℕ → ℕ
-relation_at RightRead floor level = floor
-relation_at Wanted floor level = level
-relation_at LeftRead floor level = level
-relation_at RightWanted floor level = level
-
--- after an operand
-abbrev pub read : State → State
-read s = record { floor = s.floor; level = begin s; mode = after s.mode; kept = s.kept }
-
-abbrev pub opened : State → ℕ → Mode → State
-opened s at mode = record { floor = at + 1; level = at + 1; mode = Wanted; kept = (record { floor = s.floor; level = at; mode = mode }) ∷ s.kept }
-
-abbrev pub closed : State → List Kept → State
-closed s [] = s
-closed s (k ∷ kept) = record { floor = k.floor; level = k.level; mode = k.mode; kept = kept }
-
--- after a connective or a colon
-abbrev pub anew : State → State
-anew s = record { floor = s.floor; level = s.floor; mode = Wanted; kept = s.kept }
-
-abbrev pub prefixed : State → State
-prefixed s = record { floor = s.floor; level = begin s + 1; mode = Wanted; kept = s.kept }
-
-abbrev pub related : State → State
-related s = record { floor = s.floor; level = relation_at s.mode s.floor s.level; mode = RightWanted; kept = s.kept }
-
-abbrev pub step : State → Token → State
-step s (Flag flag) = read s
-step s (Int number) = read s
-step s (Text bytes) = read s
-step s (Plain name) = read s
-step s (Scoped scope name) = read s
-step s Colon = anew s
-step s OpenList = opened s (begin s) (after s.mode)
-step s CloseList = closed s s.kept
-step s OpenBraces = opened s s.level s.mode
-step s CloseBraces = closed s s.kept
-step s OpenGroup = opened s (begin s) (after s.mode)
-step s CloseGroup = closed s s.kept
-step s (Relation op) = related s
-step s (Update op) = anew s
-step s And = anew s
-step s Or = anew s
-step s Not = prefixed s
-step s Defined = prefixed s
-
--- what a token is nested in
-abbrev pub height : State → Token → ℕ
-height s (Flag flag) = begin s
-height s (Int number) = begin s
-height s (Text bytes) = begin s
-height s (Plain name) = begin s
-height s (Scoped scope name) = begin s
-height s Colon = s.floor
-height s OpenList = begin s
-height s CloseList = s.floor
-height s OpenBraces = s.level
-height s CloseBraces = s.floor
-height s OpenGroup = begin s
-height s CloseGroup = s.floor
-height s (Relation op) = relation_at s.mode s.floor s.level
-height s (Update op) = s.floor
-height s And = s.floor
-height s Or = s.floor
-height s Not = begin s
-height s Defined = begin s
+use Rattle.opam_syntax.specs.Faults.{is_opening, opens_at}
+use Rattle.opam_syntax.specs.Grammar.{begins_relation, Level, PrimaryLevel, BracedLevel, ValueLevel, OrLevel, AndLevel, UnaryLevel, RelationLevel}
 
 pub opening_height : (s : State) (token : Token) → is_opening token ≡ true → (step s token).level ≡ height s token + 1
 opening_height s OpenList e = refl
@@ -123,11 +21,6 @@ opening_height s OpenGroup e = refl
 opening_height s Not e = refl
 opening_height s Defined e = refl
 opening_height s token e = absurd cc
-
--- from here on nothing is nested in more
-abbrev pub Below : ℕ → State → List Placed → Type 0
-Below limit s [] = ⊤
-Below limit s (placed token span ∷ tokens) = ((step s token).level ≤ limit) × Below limit (step s token) tokens
 
 -- what the first token is nested in that ends after a place
 abbrev pub at_place : ℕ → State → List Placed → ℕ
@@ -156,6 +49,9 @@ pub record Go (s : State) (tokens : List Placed) (base deep start stop : ℕ) (f
   pub below : (limit : ℕ) → base + deep ≤ limit → Below limit to rest → Below limit s tokens
   pub passes : (p : ℕ) → stop ≤ p → at_place p s tokens ≡ at_place p to rest
   pub tells : (p : ℕ) → p < stop → base + num (found p) ≤ at_place p s tokens
+  pub keeps : (p : ℕ) → stop ≤ p → list_any (opens_at p) tokens ≡ list_any (opens_at p) rest
+  pub clear : (p : ℕ) → p < start → list_any (opens_at p) tokens ≡ false
+  pub exact : (p : ℕ) → p < stop → list_any (opens_at p) tokens ≡ true → at_place p s tokens ≡ base + num (found p)
   pub before : (p : ℕ) → p < start → found p ≡ None
   pub beyond : (p : ℕ) → stop ≤ p → found p ≡ None
 
@@ -164,10 +60,13 @@ pub record GoAll (s : State) (tokens : List Placed) (base deep start stop : ℕ)
   pub below : (limit : ℕ) → base + deep ≤ limit → Below limit to rest → Below limit s tokens
   pub passes : (p : ℕ) → stop ≤ p → at_place p s tokens ≡ at_place p to rest
   pub tells : (p : ℕ) → base ≤ at_place p to rest → base + num (found p) ≤ at_place p s tokens
+  pub keeps : (p : ℕ) → stop ≤ p → list_any (opens_at p) tokens ≡ list_any (opens_at p) rest
+  pub clear : (p : ℕ) → p < start → list_any (opens_at p) tokens ≡ false
+  pub exact : (p : ℕ) → p < stop → list_any (opens_at p) tokens ≡ true → at_place p s tokens ≡ base + num (found p)
   pub before : (p : ℕ) → p < start → found p ≡ None
   pub beyond : (p : ℕ) → stop ≤ p → found p ≡ None
 
-order : (m n : ℕ) → (m < n) ⊎ (n ≤ m)
+pub order : (m n : ℕ) → (m < n) ⊎ (n ≤ m)
 order m n = grind (arith)
 
 first_none : (o p : Option ℕ) → o ≡ None → first_of o p ≡ p
@@ -201,6 +100,29 @@ pub later : (p : ℕ) (s : State) (token : Token) (start stop : ℕ) (tokens : L
     → at_place p s (placed token (record { start = start; end = stop }) ∷ tokens) ≡ at_place p (step s token) tokens
 later p s token start stop tokens l = if_false (nat_lt p stop) (height s token) (at_place p (step s token) tokens) (is_not_less p stop l)
 
+-- whether a token opens at a place
+pub not_opening : (c x y : Bool) → c ≡ false → ((c && x) || y) ≡ y
+not_opening false x y e = refl
+not_opening true x y e = absurd cc
+
+pub not_there : (c x y : Bool) → x ≡ false → ((c && x) || y) ≡ y
+not_there c true y e = absurd cc
+not_there true false y e = refl
+not_there false false y e = refl
+
+not_equal : (m n : ℕ) → m < n → (m == n) ≡ false
+not_equal m n l = grind (arith, nat_tests)
+
+pub not_equal_after : (m n : ℕ) → n < m → (m == n) ≡ false
+not_equal_after m n l = grind (arith, nat_tests)
+
+pub false_true : {A : Type 0} {b : Bool} → b ≡ false → b ≡ true → A
+false_true e f = let g = sym e ∙ f in absurd cc
+
+deeper_some : (o : Option ℕ) → ((k : ℕ) × (o ≡ Some k)) → num (deeper o) ≡ 1 + num o
+deeper_some None x = let e = x.1 in absurd cc
+deeper_some (Some n) x = omega arith
+
 -- two parts, the first of which ends before the second begins
 pub go_then : {s t c : State} {ts ms r : List Placed} {base d1 d2 a1 a2 e1 e2 : ℕ} {f g : ℕ → Option ℕ} → Go s ts base d1 a1 e1 f t ms
     → Go t ms base d2 a2 e2 g c r → a1 ≤ e1 → e1 ≤ a2 → a2 ≤ e2 → Go s ts base (max d1 d2) a1 e2 (λ p. first_of (f p) (g p)) c r
@@ -222,13 +144,19 @@ go_then {s} {t} {c} {ts} {ms} {r} {base} {d1} {d2} {a1} {a2} {e1} {e2} {f} {g} x
   ];
   before = λ p l. both_none (f p) (g p) (x.before p l) (y.before p (omega arith));
   beyond = λ p l. both_none (f p) (g p) (x.beyond p (omega arith)) (y.beyond p l);
+  keeps = λ p l. x.keeps p (omega arith) ∙ y.keeps p l;
+  clear = x.clear;
+  exact = λ p l o. elim (order p e1) [
+    | inl i ↦ x.exact p i o ∙ ap (λ z. base + num z) (sym (none_first (f p) (g p) (y.before p (omega arith))))
+    | inr i ↦ x.passes p i ∙ y.exact p l (sym (x.keeps p i) ∙ o) ∙ ap (λ z. base + num z) (sym (first_none (f p) (g p) (x.beyond p i)))
+  ];
 }
 
 -- a token before a part that is nested in no more
 pub go_after : {u c : State} {ms r : List Placed} {base d a e : ℕ} {f : ℕ → Option ℕ} (s : State) (token : Token) (start stop : ℕ) → step s token ≡ u
-    → u.level ≤ base → base ≤ height s token → Go u ms base d a e f c r → start ≤ stop → stop ≤ a → a ≤ e
+    → u.level ≤ base → base ≤ height s token → is_opening token ≡ false → Go u ms base d a e f c r → start < stop → stop ≤ a → a ≤ e
     → Go s (placed token (record { start = start; end = stop }) ∷ ms) base d start e f c r
-go_after {u} {c} {ms} {r} {base} {d} {a} {e} {f} s token start stop i j k y h l m = record {
+go_after {u} {c} {ms} {r} {base} {d} {a} {e} {f} s token start stop i j k z y h l m = record {
   below = λ limit n b. let v = y.below limit n b in
       subst (λ z. (z.level ≤ limit) × Below limit z ms) (sym i) (omega arith, v);
   passes = λ p n. later p s token start stop ms (omega arith) ∙ ap (λ z. at_place p z ms) i ∙ y.passes p n;
@@ -244,13 +172,21 @@ go_after {u} {c} {ms} {r} {base} {d} {a} {e} {f} s token start stop i j k y h l 
   ];
   before = λ p n. y.before p (omega arith);
   beyond = λ p n. y.beyond p n;
+  keeps = λ p n. not_opening (is_opening token) (start == p) (list_any (opens_at p) ms) z ∙ y.keeps p n;
+  clear = λ p n. not_opening (is_opening token) (start == p) (list_any (opens_at p) ms) z ∙ y.clear p (omega arith);
+  exact = λ p n o.
+      let o2 = sym (not_opening (is_opening token) (start == p) (list_any (opens_at p) ms) z) ∙ o in elim (order p stop) [
+        | inl q ↦ false_true (y.clear p (omega arith)) o2
+        | inr q ↦ later p s token start stop ms q ∙ ap (λ x. at_place p x ms) i ∙ y.exact p n o2
+      ];
 }
 
 -- a prefix operator before its operand
 pub go_prefixed : {u c : State} {ms r : List Placed} {base d a e : ℕ} {f : ℕ → Option ℕ} (s : State) (token : Token) (start stop : ℕ) → step s token ≡ u
-    → u.level ≤ base + 1 → base ≤ height s token → Go u ms (base + 1) d a e f c r → start ≤ stop → stop ≤ a → a ≤ e
+    → u.level ≤ base + 1 → height s token ≡ base → Go u ms (base + 1) d a e f c r
+    → ((p : ℕ) → a ≤ p → p < e → (n : ℕ) × (f p ≡ Some n)) → start < stop → stop ≤ a → a ≤ e
     → Go s (placed token (record { start = start; end = stop }) ∷ ms) base (1 + d) start e (λ p. deeper (f p)) c r
-go_prefixed {u} {c} {ms} {r} {base} {d} {a} {e} {f} s token start stop i j k y h l m = record {
+go_prefixed {u} {c} {ms} {r} {base} {d} {a} {e} {f} s token start stop i j k y z h l m = record {
   below = λ limit n b. let v = y.below limit (omega arith) b in
       subst (λ z. (z.level ≤ limit) × Below limit z ms) (sym i) (omega arith, v);
   passes = λ p n. later p s token start stop ms (omega arith) ∙ ap (λ z. at_place p z ms) i ∙ y.passes p n;
@@ -267,14 +203,33 @@ go_prefixed {u} {c} {ms} {r} {base} {d} {a} {e} {f} s token start stop i j k y h
   ];
   before = λ p n. deeper_none (f p) (y.before p (omega arith));
   beyond = λ p n. deeper_none (f p) (y.beyond p n);
+  keeps = λ p n. not_there (is_opening token) (start == p) (list_any (opens_at p) ms) (not_equal start p (omega arith)) ∙ y.keeps p n;
+  clear = λ p n. not_there (is_opening token) (start == p) (list_any (opens_at p) ms) (not_equal_after start p n) ∙ y.clear p (omega arith);
+  exact = λ p n o. elim (order p stop) [
+    | inl q ↦ (
+        let v = here p s token start stop ms q in
+        let w = num_none (deeper (f p)) (deeper_none (f p) (y.before p (omega arith))) in
+        omega arith)
+    | inr q ↦ (
+        let o2 = sym (not_there (is_opening token) (start == p) (list_any (opens_at p) ms) (not_equal start p (omega arith))) ∙ o in elim (order p a) [
+          | inl x ↦ false_true (y.clear p x) o2
+          | inr x ↦ (
+              let v = later p s token start stop ms q ∙ ap (λ b. at_place p b ms) i in
+              let w = y.exact p n o2 in
+              let b = deeper_some (f p) (z p x n) in
+              omega arith)
+        ])
+  ];
 }
 
 -- parts between a bracket and the one that closes it
 pub go_enclosed : {u t c : State} {ms r : List Placed} {base d a e : ℕ} {f : ℕ → Option ℕ} (s : State) (token close : Token) (start stop from to : ℕ) → step s token ≡ u
-    → u.level ≤ base + 1 → base ≤ height s token → GoAll u ms (base + 1) d a e f t (placed close (record { start = from; end = to }) ∷ r)
-    → step t close ≡ c → c.level ≤ base → base + 1 ≤ height t close → start ≤ stop → stop ≤ a → a ≤ e → e ≤ from → from < to
+    → u.level ≤ base + 1 → height s token ≡ base → GoAll u ms (base + 1) d a e f t (placed close (record { start = from; end = to }) ∷ r)
+    → step t close ≡ c → c.level ≤ base → base + 1 ≤ height t close → start < stop → stop ≤ a → a ≤ e → e ≤ from → from < to
+    → is_opening close ≡ false → ((p : ℕ) → p < to → list_any (opens_at p) r ≡ false)
+    → ((p : ℕ) → p < e → list_any (opens_at p) ms ≡ true → (n : ℕ) × (f p ≡ Some n))
     → Go s (placed token (record { start = start; end = stop }) ∷ ms) base (1 + d) start to (λ p. deeper (f p)) c r
-go_enclosed {u} {t} {c} {ms} {r} {base} {d} {a} {e} {f} s token close start stop from to i j k y z v w h l m n o = record {
+go_enclosed {u} {t} {c} {ms} {r} {base} {d} {a} {e} {f} s token close start stop from to i j k y z v w h l m n o shut past some = record {
   below = λ limit q b.
       let Here : State → Type 0 = λ x. (x.level ≤ limit) × Below limit x r in
       let There : State → Type 0 = λ x. (x.level ≤ limit) × Below limit x ms in
@@ -295,21 +250,55 @@ go_enclosed {u} {t} {c} {ms} {r} {base} {d} {a} {e} {f} s token close start stop
   ];
   before = λ p q. deeper_none (f p) (y.before p (omega arith));
   beyond = λ p q. deeper_none (f p) (y.beyond p (omega arith));
+  keeps = λ p q. not_there (is_opening token) (start == p) (list_any (opens_at p) ms) (not_equal start p (omega arith)) ∙ y.keeps p (omega arith)
+      ∙ not_opening (is_opening close) (from == p) (list_any (opens_at p) r) shut;
+  clear = λ p q. not_there (is_opening token) (start == p) (list_any (opens_at p) ms) (not_equal_after start p q) ∙ y.clear p (omega arith);
+  exact = λ p q b. elim (order p stop) [
+    | inl g ↦ (
+        let x = here p s token start stop ms g in
+        let b2 = num_none (deeper (f p)) (deeper_none (f p) (y.before p (omega arith))) in
+        omega arith)
+    | inr g ↦ (
+        let o2 = sym (not_there (is_opening token) (start == p) (list_any (opens_at p) ms) (not_equal start p (omega arith))) ∙ b in elim (order p e) [
+          | inl x ↦ (
+              let at = later p s token start stop ms g ∙ ap (λ b2. at_place p b2 ms) i in
+              let there = y.exact p x o2 in
+              let b2 = deeper_some (f p) (some p x o2) in
+              omega arith)
+          | inr x ↦ false_true (y.keeps p x ∙ not_opening (is_opening close) (from == p) (list_any (opens_at p) r) shut ∙ past p q) o2
+        ])
+  ];
 }
 
 -- what is found by another name
 pub go_found : {s c : State} {ts r : List Placed} {base d e a b : ℕ} {f g : ℕ → Option ℕ} → Go s ts base d a b f c r → e ≡ d
-    → ((p : ℕ) → num (g p) ≤ num (f p)) → ((p : ℕ) → p < a → g p ≡ None) → ((p : ℕ) → b ≤ p → g p ≡ None) → Go s ts base e a b g c r
-go_found y i j k l = record {
+    → ((p : ℕ) → num (g p) ≤ num (f p)) → ((p : ℕ) → a ≤ p → p < b → num (g p) ≡ num (f p)) → ((p : ℕ) → p < a → g p ≡ None) → ((p : ℕ) → b ≤ p → g p ≡ None)
+    → Go s ts base e a b g c r
+go_found {a = a} y i j same k l = record {
   below = λ limit n. y.below limit (omega arith);
   passes = y.passes;
   tells = λ p n. let v = y.tells p n in let w = j p in omega arith;
   before = k;
   beyond = l;
+  keeps = y.keeps;
+  clear = y.clear;
+  exact = λ p n o. elim (order p a) [
+    | inl q ↦ false_true (y.clear p q) o
+    | inr q ↦ (let v = y.exact p n o in let w = same p q n in omega arith)
+  ];
 }
 
-pub all_none : {s : State} {ts : List Placed} {base a : ℕ} → GoAll s ts base 0 a a (λ p. None) s ts
-all_none = record { below = λ limit n b. b; passes = λ p n. refl; tells = λ p n. omega arith; before = λ p n. refl; beyond = λ p n. refl }
+pub all_none : {s : State} {ts : List Placed} {base a : ℕ} → ((p : ℕ) → p < a → list_any (opens_at p) ts ≡ false) → GoAll s ts base 0 a a (λ p. None) s ts
+all_none clear = record {
+  below = λ limit n b. b;
+  passes = λ p n. refl;
+  tells = λ p n. omega arith;
+  before = λ p n. refl;
+  beyond = λ p n. refl;
+  keeps = λ p n. refl;
+  clear = clear;
+  exact = λ p n o. false_true (clear p n) o;
+}
 
 pub all_some : {s t c : State} {ts ms r : List Placed} {base d1 d2 a1 e1 a2 e2 : ℕ} {f g : ℕ → Option ℕ} → Go s ts base d1 a1 e1 f t ms
     → GoAll t ms base d2 a2 e2 g c r → (from : ℕ) → from ≤ a1 → a1 ≤ e1 → e1 ≤ a2 → a2 ≤ e2
@@ -332,4 +321,10 @@ all_some {s} {t} {c} {ts} {ms} {r} {base} {d1} {d2} {a1} {e1} {a2} {e2} {f} {g} 
   ];
   before = λ p l. both_none (f p) (g p) (x.before p (omega arith)) (y.before p (omega arith));
   beyond = λ p l. both_none (f p) (g p) (x.beyond p (omega arith)) (y.beyond p l);
+  keeps = λ p l. x.keeps p (omega arith) ∙ y.keeps p l;
+  clear = λ p l. x.clear p (omega arith);
+  exact = λ p l o. elim (order p e1) [
+    | inl n ↦ x.exact p n o ∙ ap (λ z. base + num z) (sym (none_first (f p) (g p) (y.before p (omega arith))))
+    | inr n ↦ x.passes p n ∙ y.exact p l (sym (x.keeps p n) ∙ o) ∙ ap (λ z. base + num z) (sym (first_none (f p) (g p) (x.beyond p n)))
+  ];
 }

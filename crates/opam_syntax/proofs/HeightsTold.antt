@@ -1,6 +1,8 @@
 -- Along a derivation the tokens tell how deep its nodes are, and in what each place of them is nested.
-use Rattle.std.proofs.Common.{◌≡◌, ℕ, ◌<◌, ◌≤◌, ◌+◌, Bool, true, false, List, [], ◌∷◌, refl, sym, subst, ap, ◌∙◌, arith, map, max, if◌then◌else◌}
-use Rattle.std.specs.Prelude.{⊤}
+use Rattle.std.proofs.Common.{◌≡◌, ℕ, ◌<◌, ◌≤◌, ◌+◌, Bool, true, false, List, [], ◌∷◌, refl, sym, subst, ap, ◌∙◌, arith, map, max, if◌then◌else◌, ◌⊎◌, inl, inr}
+use Rattle.std.specs.Prelude.{nat_lt, nat_le, ⊤, ◌&&◌, ◌||◌, ◌==◌}
+use Rattle.std.specs.List.{list_any}
+use Rattle.opam_syntax.specs.Faults.{is_opening, opens_at}
 use Rattle.std.proofs.lemmas.Bool.Decides.{nat_tests}
 use Rattle.std.specs.declared.option.Option.{Option}
 use Rattle.std.specs.declared.option.Option.TheVariants.{None, Some}
@@ -12,15 +14,16 @@ use Rattle.opam_syntax.specs.declared.tree.Value.{Value, roll-Value}
 use Rattle.opam_syntax.specs.declared.tree.Value.TheOpen.{Value-F}
 use Rattle.opam_syntax.specs.declared.tree.Value.TheFolds.{fold-Value, fold-roll-Node, fold-roll-Value}
 use Rattle.opam_syntax.specs.declared.limits.TheConstants.{NESTING_LIMIT}
+use Rattle.opam_syntax.specs.Heights.{OperandMode as Mode, Wanted, LeftRead, RightWanted, RightRead, HeightState as State, KeptHeight as Kept, operand_height as begin_at, begun_height as begin, mode_after as after, relation_height as relation_at, operand_read as read, bracket_opened as opened, bracket_closed as closed, operand_anew as anew, operand_prefixed as prefixed, relation_begun as related, height_step as step, token_height as height, NestsBelow as Below, height_start as start}
 use Rattle.opam_syntax.specs.Tokens.{Placed, placed}
 use Rattle.opam_syntax.specs.Grammar.{Level, ValueLevel, OrLevel, AndLevel, UnaryLevel, RelationLevel, BracedLevel, PrimaryLevel, atom_of, node, last_span, all_of, any_of, begins_relation, Spells, atom, list, group, bare, braced, pre_relation, alone, relation, no_prefix, negation, definedness, conjunction, disjunction, no_update, update, AreValues, no_value, value, AreConjuncts, last_conjunct, conjunct, AreDisjuncts, last_disjunct, disjunct}
 use Rattle.opam_syntax.specs.Files.{Entry, AreFields, no_field, field, AreEntries, no_entry, field_next, section_next, labelled_next}
 use Rattle.opam_syntax.specs.Nesting.{depth, most, contents_depth, AreShallow, first_of, first_among, deeper, layer_around, node_around, around, contents_around, nesting_at, is_in}
 use Rattle.opam_syntax.proofs.Folds.{node_at}
-use Rattle.opam_syntax.proofs.Depths.{depth_list, depth_group, depth_braced, depth_not, depth_defined, depth_rel, depth_pre_rel, depth_env, depth_all, depth_any}
+use Rattle.opam_syntax.proofs.Depths.{depth_list, depth_group, depth_braced, depth_not, depth_defined, depth_rel, depth_pre_rel, depth_env, depth_all, depth_any, depth_atom}
 use Rattle.opam_syntax.proofs.Shallow.{around_at, parts_around}
 use Rattle.opam_syntax.proofs.Spanned.{InOrder, lies}
-use Rattle.opam_syntax.proofs.Heights.{Mode, Wanted, LeftRead, RightWanted, RightRead, State, begin_at, begin, after, relation_at, read, opened, closed, anew, prefixed, related, step, height, Below, at_place, num, Go, GoAll, go_then, go_after, go_prefixed, go_enclosed, go_found, all_none, all_some, here, later}
+use Rattle.opam_syntax.proofs.Heights.{at_place, num, Go, GoAll, go_then, go_after, go_prefixed, go_enclosed, go_found, all_none, all_some, here, later, order, false_true, not_opening, not_there, not_equal_after}
 
 -- where the place is in no part that is told
 num_if : (c : Bool) (o : Option ℕ) → num (if c then first_of o (Some 0) else None) ≤ num o
@@ -31,6 +34,35 @@ num_if false o = omega arith
 none_if : (c : Bool) (o : Option ℕ) → c ≡ false → (if c then first_of o (Some 0) else None) ≡ None
 none_if true o e = absurd cc
 none_if false o e = refl
+
+num_in : (c : Bool) (o : Option ℕ) → c ≡ true → num (if c then first_of o (Some 0) else None) ≡ num o
+num_in true None e = refl
+num_in true (Some n) e = refl
+num_in false o e = absurd cc
+
+some_in : (c : Bool) (o : Option ℕ) → c ≡ true → (n : ℕ) × ((if c then first_of o (Some 0) else None) ≡ Some n)
+some_in true None e = (0, refl)
+some_in true (Some n) e = (n, refl)
+some_in false o e = absurd cc
+
+is_between : (p : ℕ) (span : Span) → span.start ≤ p → p < span.end → is_in p span ≡ true
+is_between p span l m = grind (arith, nat_tests)
+
+-- no token opens before the first
+order_clear : (total from : ℕ) (tokens : List Placed) → InOrder total from tokens → (p : ℕ) → p < from → list_any (opens_at p) tokens ≡ false
+order_clear total from [] o p l = refl
+order_clear total from (placed token span ∷ tokens) o p l =
+    let a = o.0 in let b = o.1 in
+    not_there (is_opening token) (span.start == p) (list_any (opens_at p) tokens) (not_equal_after span.start p (omega arith))
+    ∙ order_clear total span.end tokens o.2 p (omega arith)
+
+first_left : (o p : Option ℕ) → ((n : ℕ) × (o ≡ Some n)) → (n : ℕ) × (first_of o p ≡ Some n)
+first_left None p x = let e = x.1 in absurd cc
+first_left (Some n) p x = (n, refl)
+
+first_right : (o p : Option ℕ) → o ≡ None → ((n : ℕ) × (p ≡ Some n)) → (n : ℕ) × (first_of o p ≡ Some n)
+first_right None p e x = x
+first_right (Some n) p e x = absurd cc
 
 is_before : (p : ℕ) (span : Span) → p < span.start → is_in p span ≡ false
 is_before p span l = grind (arith, nat_tests)
@@ -53,12 +85,19 @@ around_beyond p n l = around_node p n ∙ none_if (is_in p n.span) (parts_of p n
 around_le : (p : ℕ) (shape : Value-F Value Node) (span : Span) → num (around p (node_at shape span)) ≤ num (parts_around p shape)
 around_le p shape span = let e = ap num (around_at p shape span) in let l = num_if (is_in p span) (parts_around p shape) in omega arith
 
+around_eq : (p : ℕ) (shape : Value-F Value Node) (span : Span) → is_in p span ≡ true → num (around p (node_at shape span)) ≡ num (parts_around p shape)
+around_eq p shape span e = ap num (around_at p shape span) ∙ num_in (is_in p span) (parts_around p shape) e
+
+around_some : (p : ℕ) (n : Node) → n.span.start ≤ p → p < n.span.end → (k : ℕ) × (around p n ≡ Some k)
+around_some p n l m =
+    let s = some_in (is_in p n.span) (parts_of p n.value) (is_between p n.span l m) in (s.0, around_node p n ∙ s.1)
+
 go_node : {s c : State} {ts r : List Placed} {base d : ℕ} {f : ℕ → Option ℕ} (shape : Value-F Value Node) (from to : Span) → Go s ts base d from.start to.end f c r
-    → depth (node shape from to) ≡ d → ((p : ℕ) → num (parts_around p shape) ≤ num (f p))
+    → depth (node shape from to) ≡ d → ((p : ℕ) → num (parts_around p shape) ≡ num (f p))
     → Go s ts base (depth (node shape from to)) from.start to.end (λ p. around p (node shape from to)) c r
 go_node {f = f} shape from to y e h =
     let span : Span = record { start = from.start; end = to.end } in
-    go_found y e (λ p. let a = around_le p shape span in let b = h p in omega arith) (λ p l. around_before p (node shape from to) l)
+    go_found y e (λ p. let a = around_le p shape span in let b = h p in omega arith) (λ p l m. around_eq p shape span (is_between p span l m) ∙ h p) (λ p l. around_before p (node shape from to) l)
     (λ p l. around_beyond p (node shape from to) l)
 
 -- a part whose nesting is told by an equal number
@@ -112,9 +151,20 @@ atom_height s (Plain name) e = refl
 atom_height s (Scoped scope name) e = refl
 atom_height s token e = none_some e
 
-go_atom : (s : State) (token : Token) (v : Value) (span : Span) (rest : List Placed) → atom_of token ≡ Some v
+atom_opens_not : (token : Token) {v : Value} → atom_of token ≡ Some v → is_opening token ≡ false
+atom_opens_not (Flag flag) e = refl
+atom_opens_not (Int number) e = refl
+atom_opens_not (Text bytes) e = refl
+atom_opens_not (Plain name) e = refl
+atom_opens_not (Scoped scope name) e = refl
+atom_opens_not token e = none_some e
+
+go_atom : (s : State) (token : Token) (v : Value) (span : Span) (rest : List Placed) → span.start < span.end → ((p : ℕ) → p < span.end → list_any (opens_at p) rest ≡ false) → atom_of token ≡ Some v
     → Go s (placed token span ∷ rest) (begin s) (depth (record { value = v; span = span })) span.start span.end (λ p. around p (record { value = v; span = span })) (read s) rest
-go_atom s token v span rest e = record {
+go_atom s token v span rest long past e = record {
+  keeps = λ p l. not_opening (is_opening token) (span.start == p) (list_any (opens_at p) rest) (atom_opens_not token e);
+  clear = λ p l. not_opening (is_opening token) (span.start == p) (list_any (opens_at p) rest) (atom_opens_not token e) ∙ past p (omega arith);
+  exact = λ p l o. false_true (not_opening (is_opening token) (span.start == p) (list_any (opens_at p) rest) (atom_opens_not token e) ∙ past p l) o;
   below = λ limit l b.
       let Here : State → Type 0 = λ z. (z.level ≤ limit) × Below limit z rest in
       subst Here (sym (atom_step s token e)) (omega arith, b);
@@ -203,6 +253,16 @@ record AllGone (total from : ℕ) (s : State) (tokens : List Placed) (deep : ℕ
   later : from ≤ stop
   order : InOrder total stop rest
   go : GoAll s tokens s.floor deep from stop found to rest
+  some : (p : ℕ) → p < stop → list_any (opens_at p) tokens ≡ true → (n : ℕ) × (found p ≡ Some n)
+
+record EntriesGone (total from : ℕ) (s : State) (tokens : List Placed) (deep : ℕ) (found : ℕ → Option ℕ) (rest : List Placed) : Type 0 where
+  to : State
+  floor : to.floor ≡ s.floor
+  kept : to.kept ≡ s.kept
+  stop : ℕ
+  later : from ≤ stop
+  order : InOrder total stop rest
+  go : GoAll s tokens s.floor deep from stop found to rest
 
 abbrev among : ℕ → List Node → Option ℕ
 among p nodes = first_among (map (around p) nodes)
@@ -220,35 +280,43 @@ reached_go : {s t : State} {tokens rest : List Placed} (n : Node) → t ≡ read
 reached_go {s} {t} {tokens} {rest} n e g = subst (λ z. Go s tokens (begin s) (depth n) n.span.start n.span.end (λ p. around p n) z rest) e g
 
 bracketed : (total : ℕ) (s : State) (token close : Token) (from to : Span) (inner rest : List Placed) (deep : ℕ) (found : ℕ → Option ℕ) (at : ℕ) (mode : Mode)
-    → step s token ≡ opened s at mode → height s token ≡ at → ((t : State) → step t close ≡ closed t t.kept) → ((t : State) → height t close ≡ t.floor)
+    → step s token ≡ opened s at mode → height s token ≡ at → ((t : State) → step t close ≡ closed t t.kept) → ((t : State) → height t close ≡ t.floor) → is_opening close ≡ false
     → from.start < from.end → AllGone total from.end (opened s at mode) inner deep found (placed close to ∷ rest)
     → Go s (placed token from ∷ inner) at (1 + deep) from.start to.end (λ p. deeper (found p)) (record { floor = s.floor; level = at; mode = mode; kept = s.kept }) rest
-bracketed total s token close from to inner rest deep found at mode i j k l m a =
+bracketed total s token close from to inner rest deep found at mode i j k l shut m a =
     let f = a.floor in let g = l a.to in let h = a.order.0 in let o = a.order.1 in let n = a.later in
-    go_enclosed s token close from.start from.end to.start to.end i (omega arith) (omega arith) a.go
-    (k a.to ∙ ap (λ z. closed a.to z) a.kept) (omega arith) (omega arith) (omega arith) (omega arith) a.later h o
+    go_enclosed s token close from.start from.end to.start to.end i (omega arith) j a.go
+    (k a.to ∙ ap (λ z. closed a.to z) a.kept) (omega arith) (omega arith) m (omega arith) a.later h o shut (λ p q. order_clear total to.end rest a.order.2 p q) a.some
 
 all_node : {s c : State} {ts r : List Placed} {base : ℕ} (head : Node) (more : List Node)
     → Go s ts base (max (depth head) (most (map depth more))) head.span.start (last_span head more).end (λ p. first_of (around p head) (among p more)) c r
     → Go s ts base (depth (all_of head more)) (all_of head more).span.start (all_of head more).span.end (λ p. around p (all_of head more)) c r
 all_node head [] y =
-    go_found y (omega arith) (λ p. alone_le (around p head)) (λ p l. around_before p head l) (λ p l. around_beyond p head l)
+    go_found y (omega arith) (λ p. alone_le (around p head)) (λ p l m. alone_eq (around p head)) (λ p l. around_before p head l) (λ p l. around_beyond p head l)
   where
     alone_le : (o : Option ℕ) → num o ≤ num (first_of o None)
     alone_le None = omega arith
     alone_le (Some n) = omega arith
-all_node head (next ∷ more) y = go_node (Value-F.And (head ∷ next ∷ more)) head.span (last_span next more) y (depth_all head (next ∷ more)) (λ p. omega arith)
+
+    alone_eq : (o : Option ℕ) → num o ≡ num (first_of o None)
+    alone_eq None = refl
+    alone_eq (Some n) = refl
+all_node head (next ∷ more) y = go_node (Value-F.And (head ∷ next ∷ more)) head.span (last_span next more) y (depth_all head (next ∷ more)) (λ p. refl)
 
 any_node : {s c : State} {ts r : List Placed} {base : ℕ} (head : Node) (more : List Node)
     → Go s ts base (max (depth head) (most (map depth more))) head.span.start (last_span head more).end (λ p. first_of (around p head) (among p more)) c r
     → Go s ts base (depth (any_of head more)) (any_of head more).span.start (any_of head more).span.end (λ p. around p (any_of head more)) c r
 any_node head [] y =
-    go_found y (omega arith) (λ p. alone_le (around p head)) (λ p l. around_before p head l) (λ p l. around_beyond p head l)
+    go_found y (omega arith) (λ p. alone_le (around p head)) (λ p l m. alone_eq (around p head)) (λ p l. around_before p head l) (λ p l. around_beyond p head l)
   where
     alone_le : (o : Option ℕ) → num o ≤ num (first_of o None)
     alone_le None = omega arith
     alone_le (Some n) = omega arith
-any_node head (next ∷ more) y = go_node (Value-F.Or (head ∷ next ∷ more)) head.span (last_span next more) y (depth_any head (next ∷ more)) (λ p. omega arith)
+
+    alone_eq : (o : Option ℕ) → num o ≡ num (first_of o None)
+    alone_eq None = refl
+    alone_eq (Some n) = refl
+any_node head (next ∷ more) y = go_node (Value-F.Or (head ∷ next ∷ more)) head.span (last_span next more) y (depth_any head (next ∷ more)) (λ p. refl)
 
 rests_on : {s t u : State} {ms rest : List Placed} → Rests s t ms → Rests (anew t) u rest → Rests s u rest
 rests_on a b = record { floor = b.floor ∙ a.floor; kept = b.kept ∙ a.kept; ready = b.ready; begins = b.begins }
@@ -262,7 +330,7 @@ one_part {s} {t} {tokens} {rest} total from head e r i j g = record {
   reached = r;
   starts = i;
   some = omega arith;
-  go = go_found (go_base e g) (omega arith) (λ p. alone_ge (around p head)) (λ p l. alone_none (around p head) (around_before p head l))
+  go = go_found (go_base e g) (omega arith) (λ p. alone_ge (around p head)) (λ p l m. alone_same (around p head)) (λ p l. alone_none (around p head) (around_before p head l))
       (λ p l. alone_none (around p head) (around_beyond p head l));
 }
   where
@@ -270,23 +338,27 @@ one_part {s} {t} {tokens} {rest} total from head e r i j g = record {
     alone_ge None = omega arith
     alone_ge (Some n) = omega arith
 
+    alone_same : (o : Option ℕ) → num (first_of o None) ≡ num o
+    alone_same None = refl
+    alone_same (Some n) = refl
+
     alone_none : (o : Option ℕ) → o ≡ None → first_of o None ≡ None
     alone_none None x = refl
     alone_none (Some n) x = absurd cc
 
 more_parts : {s t : State} {tokens between rest : List Placed} (total from : ℕ) (head next : Node) (more : List Node) (token : Token) (sign : Span)
-    → begin s ≡ s.floor → ((z : State) → step z token ≡ anew z) → ((z : State) → height z token ≡ z.floor)
+    → begin s ≡ s.floor → ((z : State) → step z token ≡ anew z) → ((z : State) → height z token ≡ z.floor) → is_opening token ≡ false
     → Rests s t (placed token sign ∷ between) → from ≤ head.span.start → head.span.start < head.span.end → head.span.end ≤ sign.start → sign.start < sign.end
     → Go s tokens (begin s) (depth head) head.span.start head.span.end (λ p. around p head) t (placed token sign ∷ between)
     → PartsGone total sign.end (anew t) between next more rest
     → PartsGone total from s tokens head (next ∷ more) rest
-more_parts {s} {t} {tokens} {between} {rest} total from head next more token sign e i j r k l m n g a =
+more_parts {s} {t} {tokens} {between} {rest} total from head next more token sign e i j shut r k l m n g a =
     let f = r.floor in let h = j t in let o = a.starts in let q = a.some in record {
       to = a.to;
       reached = rests_on r a.reached;
       starts = k;
       some = omega arith;
-      go = go_then (go_base e g) (go_after t token sign.start sign.end (i t) (omega arith) (omega arith) (go_base r.floor a.go) (omega arith) a.starts a.some)
+      go = go_then (go_base e g) (go_after t token sign.start sign.end (i t) (omega arith) (omega arith) shut (go_base r.floor a.go) (omega arith) a.starts a.some)
           (omega arith) m (omega arith);
     }
 
@@ -294,34 +366,34 @@ mutual
   goes : {level : Level} {tokens : List Placed} {n : Node} {rest : List Placed} → Spells level tokens n rest → (total from : ℕ)
       → InOrder total from tokens → (s : State) → Fits level s tokens → Gone level s tokens n rest
   goes (atom {token = token} {value = v} {span = span} {rest = rest} e) total at o s fit =
-      record { to = read s; reached = refl; go = go_atom s token v span rest e }
+      record { to = read s; reached = refl; go = go_atom s token v span rest o.1 (λ p l. order_clear total span.end rest o.2 p l) e }
   goes (list {from = from} {to = to} {tokens = tokens} {rest = rest} {nodes = nodes} p) total at o s fit =
       let a = values_gone p total from.end o.2 (opened s (begin s) (after s.mode)) tt refl in
-      let b = bracketed total s OpenList CloseList from to tokens rest (most (map depth nodes)) (λ p. among p nodes) (begin s) (after s.mode) refl refl (λ t. refl) (λ t. refl) o.1 a in
-      record { to = read s; reached = refl; go = go_node (Value-F.List nodes) from to b (depth_list nodes from to) (λ p. omega arith) }
+      let b = bracketed total s OpenList CloseList from to tokens rest (most (map depth nodes)) (λ p. among p nodes) (begin s) (after s.mode) refl refl (λ t. refl) (λ t. refl) refl o.1 a in
+      record { to = read s; reached = refl; go = go_node (Value-F.List nodes) from to b (depth_list nodes from to) (λ p. refl) }
   goes (group {from = from} {to = to} {tokens = tokens} {rest = rest} {nodes = nodes} p) total at o s fit =
       let a = values_gone p total from.end o.2 (opened s (begin s) (after s.mode)) tt refl in
-      let b = bracketed total s OpenGroup CloseGroup from to tokens rest (most (map depth nodes)) (λ p. among p nodes) (begin s) (after s.mode) refl refl (λ t. refl) (λ t. refl) o.1 a in
-      record { to = read s; reached = refl; go = go_node (Value-F.Group nodes) from to b (depth_group nodes from to) (λ p. omega arith) }
+      let b = bracketed total s OpenGroup CloseGroup from to tokens rest (most (map depth nodes)) (λ p. among p nodes) (begin s) (after s.mode) refl refl (λ t. refl) (λ t. refl) refl o.1 a in
+      record { to = read s; reached = refl; go = go_node (Value-F.Group nodes) from to b (depth_group nodes from to) (λ p. refl) }
   goes (bare p) total at o s fit = let g = goes p total at o s tt in record { to = g.to; reached = g.reached; go = g.go }
   goes (braced {from = from} {to = to} {inner = inner} {rest = rest} {value = v} {nodes = nodes} p q) total at o s fit =
       let g = goes p total at o s tt in
       let l = lies p total at o in
       let a = values_gone q total from.end l.after.2 (opened (read s) (begin s) (after s.mode)) tt refl in
-      let b = bracketed total (read s) OpenBraces CloseBraces from to inner rest (most (map depth nodes)) (λ p. among p nodes) (begin s) (after s.mode) refl refl (λ t. refl) (λ t. refl) l.after.1 a in
+      let b = bracketed total (read s) OpenBraces CloseBraces from to inner rest (most (map depth nodes)) (λ p. among p nodes) (begin s) (after s.mode) refl refl (λ t. refl) (λ t. refl) refl l.after.1 a in
       let c = l.some in let d = l.after.0 in let e = a.order.0 in let f = a.order.1 in let h = l.after.1 in let i = a.later in
       let both = go_then (reached_go v g.reached g.go) b (omega arith) d (omega arith) in
-      record { to = read s; reached = refl; go = go_node (Value-F.Braced v nodes) v.span to both (depth_braced v nodes v.span to) (λ p. omega arith) }
+      record { to = read s; reached = refl; go = go_node (Value-F.Braced v nodes) v.span to both (depth_braced v nodes v.span to) (λ p. refl) }
   goes (pre_relation {op = op} {from = from} {tokens = tokens} {right = right} p) total at o s fit =
       let e = ready_relation s.mode s.floor s.level (placed (Relation op) from ∷ tokens) fit refl in
       let g = goes p total from.end o.2 (related s) tt in
       let l = lies p total from.end o.2 in
       let c = l.from in let d = l.some in let f = o.1 in
-      let b = go_after s (Relation op) from.start from.end refl (omega arith) (omega arith) (go_base e (reached_go right g.reached g.go)) (omega arith) c (omega arith) in
+      let b = go_after s (Relation op) from.start from.end refl (omega arith) (omega arith) refl (go_base e (reached_go right g.reached g.go)) (omega arith) c (omega arith) in
       record {
         to = read (related s);
         reached = record { floor = refl; kept = refl; ready = tt; begins = refl };
-        go = go_node (Value-F.PreRel op right) from right.span b (depth_pre_rel op right from right.span) (λ p. omega arith);
+        go = go_node (Value-F.PreRel op right) from right.span b (depth_pre_rel op right from right.span) (λ p. refl);
       }
   goes (alone {tokens = tokens} {rest = rest} {value = v} p h) total at o s fit =
       let g = goes p total at o s tt in
@@ -337,35 +409,35 @@ mutual
       let r = goes q total sign.end l.after.2 (related (read s)) tt in
       let m = lies q total sign.end l.after.2 in
       let a = l.some in let b = l.after.0 in let c = l.after.1 in let d = m.from in let f = m.some in
-      let second = go_after (read s) (Relation op) sign.start sign.end refl (omega arith) (omega arith) (go_base e (reached_go right r.reached r.go)) (omega arith) d (omega arith) in
+      let second = go_after (read s) (Relation op) sign.start sign.end refl (omega arith) (omega arith) refl (go_base e (reached_go right r.reached r.go)) (omega arith) d (omega arith) in
       let both = go_then (reached_go left g.reached g.go) second (omega arith) b (omega arith) in
       record {
         to = read (related (read s));
         reached = record { floor = refl; kept = refl; ready = tt; begins = refl };
-        go = go_node (Value-F.Rel op left right) left.span right.span both (depth_rel op left right left.span right.span) (λ p. omega arith);
+        go = go_node (Value-F.Rel op left right) left.span right.span both (depth_rel op left right left.span right.span) (λ p. refl);
       }
   goes (no_prefix p) total at o s fit = let g = goes p total at o s fit in record { to = g.to; reached = g.reached; go = g.go }
   goes (negation {from = from} {value = v} p) total at o s fit =
       let g = goes p total from.end o.2 (prefixed s) tt in
       let l = lies p total from.end o.2 in
       let a = l.from in let b = l.some in let c = o.1 in
-      let d = go_prefixed s Not from.start from.end refl (omega arith) (omega arith) g.go (omega arith) a (omega arith) in
+      let d = go_prefixed s Not from.start from.end refl (omega arith) refl g.go (λ p l m. around_some p v l m) (omega arith) a (omega arith) in
       let r = g.reached in
       record {
         to = g.to;
         reached = record { floor = r.floor; kept = r.kept; ready = r.ready; begins = r.begins };
-        go = go_node (Value-F.Not v) from v.span d (depth_not v from v.span) (λ p. omega arith);
+        go = go_node (Value-F.Not v) from v.span d (depth_not v from v.span) (λ p. refl);
       }
   goes (definedness {from = from} {value = v} p) total at o s fit =
       let g = goes p total from.end o.2 (prefixed s) tt in
       let l = lies p total from.end o.2 in
       let a = l.from in let b = l.some in let c = o.1 in
-      let d = go_prefixed s Defined from.start from.end refl (omega arith) (omega arith) g.go (omega arith) a (omega arith) in
+      let d = go_prefixed s Defined from.start from.end refl (omega arith) refl g.go (λ p l m. around_some p v l m) (omega arith) a (omega arith) in
       let r = g.reached in
       record {
         to = g.to;
         reached = record { floor = r.floor; kept = r.kept; ready = r.ready; begins = r.begins };
-        go = go_node (Value-F.Defined v) from v.span d (depth_defined v from v.span) (λ p. omega arith);
+        go = go_node (Value-F.Defined v) from v.span d (depth_defined v from v.span) (λ p. refl);
       }
   goes (conjunction {first = head} {more = more} p) total at o s fit =
       let a = conjuncts_gone p total at o s fit in record { to = a.to; reached = a.reached; go = go_base (sym fit.1) (all_node head more a.go) }
@@ -380,18 +452,27 @@ mutual
       let m = lies q total sign.end l.after.2 in
       let a = l.some in let b = l.after.0 in let c = l.after.1 in let d = m.from in let f = m.some in let h = w.floor in
       let i = go_base (h ∙ sym fit.1) r.go in let j = fit.1 in
-      let second = go_after t (Update op) sign.start sign.end refl (omega arith) (omega arith) i (omega arith) d (omega arith) in
+      let second = go_after t (Update op) sign.start sign.end refl (omega arith) (omega arith) refl i (omega arith) d (omega arith) in
       let both = go_then g.go second (omega arith) b (omega arith) in
       record {
         to = r.to;
         reached = rests_on w r.reached;
-        go = go_node (Value-F.Env op left right) left.span right.span both (depth_env op left right left.span right.span) (λ p. omega arith);
+        go = go_node (Value-F.Env op left right) left.span right.span both (depth_env op left right left.span right.span) (λ p. refl);
       }
 
   values_gone : {tokens : List Placed} {nodes : List Node} {rest : List Placed} → AreValues tokens nodes rest → (total from : ℕ)
       → InOrder total from tokens → (s : State) → ReadyAt s.mode tokens → begin s ≡ s.floor
       → AllGone total from s tokens (most (map depth nodes)) (λ p. among p nodes) rest
-  values_gone no_value total at o s r e = record { to = s; floor = refl; kept = refl; stop = at; later = omega arith; order = o; go = all_none }
+  values_gone (no_value {rest = rest}) total at o s r e = record {
+    to = s;
+    floor = refl;
+    kept = refl;
+    stop = at;
+    later = omega arith;
+    order = o;
+    go = all_none (λ p l. order_clear total at rest o p l);
+    some = λ p l h. false_true (order_clear total at rest o p l) h;
+  }
   values_gone (value {first = head} {more = more} p q) total at o s r e =
       let g = goes p total at o s (r, e) in
       let l = lies p total at o in
@@ -406,6 +487,13 @@ mutual
         later = omega arith;
         order = a.order;
         go = all_some (go_base e g.go) (all_base w.floor a.go) at b (omega arith) (omega arith) d;
+        some = λ p l h. elim (order p head.span.end) [
+          | inl i ↦ elim (order p head.span.start) [
+            | inl j ↦ false_true (g.go.clear p j) h
+            | inr j ↦ first_left (around p head) (among p more) (around_some p head j i)
+          ]
+          | inr i ↦ first_right (around p head) (among p more) (around_beyond p head i) (a.some p l (sym (g.go.keeps p i) ∙ h))
+        ];
       }
 
   conjuncts_gone : {tokens : List Placed} {head : Node} {more : List Node} {rest : List Placed} → AreConjuncts tokens head more rest → (total from : ℕ)
@@ -416,7 +504,7 @@ mutual
       let g = goes p total at o s fit.0 in
       let l = lies p total at o in
       let a = conjuncts_gone q total sign.end l.after.2 (anew g.to) (tt, refl) in
-      more_parts total at head next more And sign fit.1 (λ z. refl) (λ z. refl) g.reached l.from l.some l.after.0 l.after.1 g.go a
+      more_parts total at head next more And sign fit.1 (λ z. refl) (λ z. refl) refl g.reached l.from l.some l.after.0 l.after.1 g.go a
 
   disjuncts_gone : {tokens : List Placed} {head : Node} {more : List Node} {rest : List Placed} → AreDisjuncts tokens head more rest → (total from : ℕ)
       → InOrder total from tokens → (s : State) → ReadyAt s.mode tokens × (begin s ≡ s.floor) → PartsGone total from s tokens head more rest
@@ -426,7 +514,7 @@ mutual
       let g = goes p total at o s fit in
       let l = lies p total at o in
       let a = disjuncts_gone q total sign.end l.after.2 (anew g.to) (tt, refl) in
-      more_parts total at head next more Or sign fit.1 (λ z. refl) (λ z. refl) g.reached l.from l.some l.after.0 l.after.1 g.go a
+      more_parts total at head next more Or sign fit.1 (λ z. refl) (λ z. refl) refl g.reached l.from l.some l.after.0 l.after.1 g.go a
 
 abbrev in_fields : ℕ → List (List ℕ × Node) → Option ℕ
 in_fields p fields = first_among (map (λ f. around p f.1) fields)
@@ -437,14 +525,23 @@ go_field : {s t : State} {tokens rest : List Placed} (total from : ℕ) (name : 
     → Go (anew (read s)) tokens s.floor (depth v) v.span.start v.span.end (λ p. around p v) t rest
     → Go s (placed (Plain name) before ∷ placed Colon colon ∷ tokens) s.floor (depth v) before.start v.span.end (λ p. around p v) t rest
 go_field {s} total from name before colon v e i j k l m g =
-    go_after s (Plain name) before.start before.end refl (omega arith) (omega arith)
-    (go_after (read s) Colon colon.start colon.end refl (omega arith) (omega arith) g (omega arith) l (omega arith))
+    go_after s (Plain name) before.start before.end refl (omega arith) (omega arith) refl
+    (go_after (read s) Colon colon.start colon.end refl (omega arith) (omega arith) refl g (omega arith) l (omega arith))
     (omega arith) j (omega arith)
 
 fields_gone : {tokens : List Placed} {fields : List (List ℕ × Node)} {places : List ℕ} {rest : List Placed} → AreFields tokens fields places rest
     → (total from : ℕ) → InOrder total from tokens → (s : State) → begin s ≡ s.floor
     → AllGone total from s tokens (most (map (λ f. depth f.1) fields)) (λ p. in_fields p fields) rest
-fields_gone no_field total at o s e = record { to = s; floor = refl; kept = refl; stop = at; later = omega arith; order = o; go = all_none }
+fields_gone (no_field {rest = rest}) total at o s e = record {
+  to = s;
+  floor = refl;
+  kept = refl;
+  stop = at;
+  later = omega arith;
+  order = o;
+  go = all_none (λ p l. order_clear total at rest o p l);
+  some = λ p l h. false_true (order_clear total at rest o p l) h;
+}
 fields_gone (field {name = name} {from = from} {at = sign} {value = v} {fields = fields} p q) total at o s e =
     let g = goes p total sign.end o.2.2 (anew (read s)) (tt, refl) in
     let l = lies p total sign.end o.2.2 in
@@ -459,6 +556,13 @@ fields_gone (field {name = name} {from = from} {at = sign} {value = v} {fields =
       later = omega arith;
       order = a.order;
       go = all_some (go_field total at name from sign v e h i j b c g.go) (all_base w.floor a.go) at f (omega arith) (omega arith) d;
+      some = λ p q k. elim (order p v.span.end) [
+        | inl x ↦ elim (order p v.span.start) [
+          | inl y ↦ false_true (g.go.clear p y) k
+          | inr y ↦ first_left (around p v) (in_fields p fields) (around_some p v y x)
+        ]
+        | inr x ↦ first_right (around p v) (in_fields p fields) (around_beyond p v x) (a.some p q (sym (g.go.keeps p x) ∙ k))
+      ];
     }
 
 abbrev in_entries : ℕ → List Entry → Option ℕ
@@ -474,14 +578,14 @@ braces_gone {tokens} {between} {fields} {places} {to} p total sign i o s e =
     let a = fields_gone p total sign.end o (opened s s.level s.mode) refl in
     let b = a.order.0 in let c = a.order.1 in let d = a.later in (
       go_base e (bracketed total s OpenBraces CloseBraces sign to tokens between (most (map (λ f. depth f.1) fields)) (λ p. in_fields p fields) s.level s.mode
-          refl refl (λ t. refl) (λ t. refl) i a),
+          refl refl (λ t. refl) (λ t. refl) refl i a),
       omega arith,
       a.order.2,
     )
 
 entries_gone : {tokens : List Placed} {entries : List Entry} → AreEntries tokens entries → (total from : ℕ) → InOrder total from tokens → (s : State)
-    → begin s ≡ s.floor → AllGone total from s tokens (most (map (λ entry. contents_depth entry.contents) entries)) (λ p. in_entries p entries) []
-entries_gone no_entry total at o s e = record { to = s; floor = refl; kept = refl; stop = at; later = omega arith; order = o; go = all_none }
+    → begin s ≡ s.floor → EntriesGone total from s tokens (most (map (λ entry. contents_depth entry.contents) entries)) (λ p. in_entries p entries) []
+entries_gone no_entry total at o s e = record { to = s; floor = refl; kept = refl; stop = at; later = omega arith; order = o; go = all_none (λ p l. refl) }
 entries_gone (field_next {name = name} {from = from} {at = sign} {value = v} {entries = entries} p q) total at o s e =
     let g = goes p total sign.end o.2.2 (anew (read s)) (tt, refl) in
     let l = lies p total sign.end o.2.2 in
@@ -509,7 +613,7 @@ entries_gone (section_next {name = name} {from = from} {at = sign} {to = to} {to
       stop = a.stop;
       later = omega arith;
       order = a.order;
-      go = all_some (go_after s (Plain name) from.start from.end refl (omega arith) (omega arith) b.0 (omega arith) i (omega arith)) a.go at f (omega arith) (omega arith) d;
+      go = all_some (go_after s (Plain name) from.start from.end refl (omega arith) (omega arith) refl b.0 (omega arith) i (omega arith)) a.go at f (omega arith) (omega arith) d;
     }
 entries_gone (labelled_next {name = name} {label = label} {from = from} {by = by} {at = sign} {to = to} {tokens = tokens} {fields = fields} {entries = entries} p q) total at o s e =
     let c = even (after s.mode) s.floor (begin s) e in
@@ -524,14 +628,10 @@ entries_gone (labelled_next {name = name} {label = label} {from = from} {by = by
       stop = a.stop;
       later = omega arith;
       order = a.order;
-      go = all_some (go_after s (Plain name) from.start from.end refl (omega arith) (omega arith)
-          (go_after (read s) (Text label) by.start by.end refl (omega arith) (omega arith) b.0 (omega arith) m (omega arith)) (omega arith) i (omega arith))
+      go = all_some (go_after s (Plain name) from.start from.end refl (omega arith) (omega arith) refl
+          (go_after (read s) (Text label) by.start by.end refl (omega arith) (omega arith) refl b.0 (omega arith) m (omega arith)) (omega arith) i (omega arith))
           a.go at f (omega arith) (omega arith) d;
     }
-
--- before the first token
-abbrev pub start : State
-start = record { floor = 0; level = 0; mode = Wanted; kept = [] }
 
 -- nothing that shallow entries have is nested in more than the limit
 pub shallow_below : (total : ℕ) (tokens : List Placed) (entries : List Entry) → InOrder total 0 tokens → AreEntries tokens entries → AreShallow entries
@@ -542,3 +642,12 @@ shallow_below total tokens entries o p s = (entries_gone p total 0 o start refl)
 pub nesting_told : (total place : ℕ) (tokens : List Placed) (entries : List Entry) → InOrder total 0 tokens → AreEntries tokens entries
     → nesting_at place entries ≤ at_place place start tokens
 nesting_told total place tokens entries o p = let a = (entries_gone p total 0 o start refl).go.tells place (omega arith) in omega arith
+
+-- where a token opens, its place is nested in just as much as the tokens before it tell
+pub nesting_exact : (total place : ℕ) (tokens : List Placed) (entries : List Entry) → InOrder total 0 tokens → AreEntries tokens entries
+    → list_any (opens_at place) tokens ≡ true → at_place place start tokens ≡ nesting_at place entries
+nesting_exact total place tokens entries o p h =
+    let a = entries_gone p total 0 o start refl in elim (order place a.stop) [
+      | inl i ↦ (let b = a.go.exact place i h in omega arith)
+      | inr i ↦ false_true (a.go.keeps place i) h
+    ]

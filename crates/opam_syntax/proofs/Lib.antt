@@ -41,3 +41,9 @@ pub mod HeightsTold
 pub mod Suffixes
 pub mod Settled
 pub mod NowhereDeep
+pub mod Following
+pub mod Followed
+pub mod Spelled
+pub mod Exact
+pub mod Closed
+pub mod Ended

@@ -15,6 +15,8 @@ use Rattle.opam_syntax.specs.declared.token.Token.{Token}
 use Rattle.opam_syntax.specs.declared.token.Token.TheVariants.{Text, OpenList, OpenBraces, OpenGroup, Not, Defined}
 use Rattle.opam_syntax.specs.Words.{is_word_byte, word_of, word_token, int_of, identifier_of, int_or_identifier, is_plain, is_scoped}
 use Rattle.opam_syntax.specs.Signs.{signs, sign_among, begins_with}
+use Rattle.opam_syntax.specs.Heights.{HeightState as State, height_step as step, token_height as height, NestsBelow as Below, height_start as start, height_after as exec}
+use Rattle.opam_syntax.specs.Following.{token_of}
 use Rattle.opam_syntax.specs.Tokens.{First, End, Gap, Single, Quote, NoToken, first, is_blank, after_comment, word_first, sign_first, Placed, placed, span_between, AreTokens, ends, gap, single, text}
 use Rattle.opam_syntax.specs.Files.{Entry, AreEntries}
 use Rattle.opam_syntax.specs.Nesting.{AreShallow}
@@ -27,9 +29,10 @@ use Rattle.opam_syntax.proofs.Shorter.{first_shrinks, after_first}
 use Rattle.opam_syntax.proofs.Spanned.{InOrder, in_order}
 use Rattle.opam_syntax.proofs.WordsRead.{drop_step}
 use Rattle.opam_syntax.proofs.Suffixes.{EndsWith}
-use Rattle.opam_syntax.proofs.Settled.{OpeningByte, list_byte, braces_byte, group_byte, not_byte, defined_byte, opens, Lexes, none_read, gap_then, single_then, text_then, lexes_end, lexes_short, token_of, LexesToo, lexes_too}
-use Rattle.opam_syntax.proofs.Heights.{State, step, height, Below, at_place, here, later, opening_height}
-use Rattle.opam_syntax.proofs.HeightsTold.{start, shallow_below, nesting_told}
+use Rattle.opam_syntax.proofs.Settled.{OpeningByte, list_byte, braces_byte, group_byte, not_byte, defined_byte, opens, lexes_end, lexes_short, LexesToo, lexes_too}
+use Rattle.opam_syntax.specs.Lexes.{Lexes, none_read, gap_then, single_then, text_then}
+use Rattle.opam_syntax.proofs.Heights.{at_place, here, later, opening_height}
+use Rattle.opam_syntax.proofs.HeightsTold.{shallow_below, nesting_told}
 
 -- what is read up to a place is read of all
 lexes_left : {total : ℕ} {bytes stop : List ℕ} {pre us : List Placed} → Lexes total bytes pre stop → AreTokens total bytes us
@@ -39,24 +42,24 @@ lexes_left (gap_then e l) p = lexes_left l (after_gap e p)
 lexes_left (single_then e l) p = lexes_left l (after_single e p).spelled
 lexes_left (text_then e i l) p = lexes_left l (after_text e i p).1
 
-lexes_onto : {total : ℕ} {bytes stop : List ℕ} {pre us : List Placed} → Lexes total bytes pre stop → AreTokens total stop us → AreTokens total bytes (pre ++ us)
+pub lexes_onto : {total : ℕ} {bytes stop : List ℕ} {pre us : List Placed} → Lexes total bytes pre stop → AreTokens total stop us → AreTokens total bytes (pre ++ us)
 lexes_onto none_read p = p
 lexes_onto (gap_then e l) p = gap e (lexes_onto l p)
 lexes_onto (single_then e l) p = single e (lexes_onto l p)
 lexes_onto (text_then e i l) p = text e i (lexes_onto l p)
 
 -- an opening token, and what was read before it
-record Found (total : ℕ) (bytes : List ℕ) (tokens : List Placed) (place : ℕ) : Type 0 where
-  pre : List Placed
-  post : List Placed
-  token : Token
-  stop : List ℕ
-  rest : List ℕ
-  lexes : Lexes total bytes pre stop
-  stands : first stop ≡ Single token rest
-  opening : is_opening token ≡ true
-  there : total - length stop ≡ place
-  is : tokens ≡ pre ++ placed token (span_between total stop rest) ∷ post
+pub record Found (total : ℕ) (bytes : List ℕ) (tokens : List Placed) (place : ℕ) : Type 0 where
+  pub pre : List Placed
+  pub post : List Placed
+  pub token : Token
+  pub stop : List ℕ
+  pub rest : List ℕ
+  pub lexes : Lexes total bytes pre stop
+  pub stands : first stop ≡ Single token rest
+  pub opening : is_opening token ≡ true
+  pub there : total - length stop ≡ place
+  pub is : tokens ≡ pre ++ placed token (span_between total stop rest) ∷ post
 
 either_true : (x y : Bool) → (x || y) ≡ true → (x ≡ true) ⊎ (y ≡ true)
 either_true true y h = inl refl
@@ -125,14 +128,14 @@ found {total} {bytes} (text {text = t} {rest = rest} {tokens = tokens} e i p) pl
     }
 
 -- the bytes of opening tokens
-data OpensWith : ℕ → Token → Type 0 where
+pub data OpensWith : ℕ → Token → Type 0 where
   with_list : OpensWith 91 OpenList
   with_braces : OpensWith 123 OpenBraces
   with_group : OpensWith 40 OpenGroup
   with_not : OpensWith 33 Not
   with_defined : OpensWith 63 Defined
 
-byte_of : {x : ℕ} {token : Token} → OpensWith x token → OpeningByte x
+pub byte_of : {x : ℕ} {token : Token} → OpensWith x token → OpeningByte x
 byte_of with_list = list_byte
 byte_of with_braces = braces_byte
 byte_of with_group = group_byte
@@ -270,7 +273,7 @@ tells_first b bytes =
     (tells_if P (is_word_byte b) _ _ (tells_word b (word_token w) (drop (length w) all) (no_word w))
     (tells_sign b bytes signs signs_tell))))))
 
-opens_with : (x : ℕ) (m rest : List ℕ) (token : Token) → first (x ∷ m) ≡ Single token rest → is_opening token ≡ true → OpensWith x token
+pub opens_with : (x : ℕ) (m rest : List ℕ) (token : Token) → first (x ∷ m) ≡ Single token rest → is_opening token ≡ true → OpensWith x token
 opens_with x m rest token e h = let f : Tells x (Single token rest) = subst (Tells x) e (tells_first x m) in f h
 
 -- where no longer sign begins, the opening token stands first
@@ -282,23 +285,18 @@ left_false : (x y : Bool) → (x || y) ≡ false → x ≡ false
 left_false false y h = refl
 left_false true y h = absurd cc
 
-opening_first : {x : ℕ} {token : Token} → OpensWith x token → (m : List ℕ) → begins_longer (x ∷ m) ≡ false → first (x ∷ m) ≡ Single token m
+pub opening_first : {x : ℕ} {token : Token} → OpensWith x token → (m : List ℕ) → begins_longer (x ∷ m) ≡ false → first (x ∷ m) ≡ Single token m
 opening_first with_list m h = refl
 opening_first with_braces m h = refl
 opening_first with_defined m h = refl
 opening_first with_group m h = skip _ _ _ (left_false (begins_with (codes "*") m) false h)
 opening_first with_not m h = ap sign_first (skip _ _ _ h)
 
--- the state after tokens
-abbrev exec : State → List Token → State
-exec s [] = s
-exec s (token ∷ tokens) = exec (step s token) tokens
-
-below_at : (limit : ℕ) (s : State) (pre after : List Placed) → Below limit s (pre ++ after) → Below limit (exec s (map token_of pre)) after
+pub below_at : (limit : ℕ) (s : State) (pre after : List Placed) → Below limit s (pre ++ after) → Below limit (exec s (map token_of pre)) after
 below_at limit s [] after h = h
 below_at limit s (placed token span ∷ pre) after h = below_at limit (step s token) pre after h.1
 
-at_token : {total : ℕ} {bytes stop : List ℕ} {pre : List Placed} → Lexes total bytes pre stop → (place : ℕ) → total - length stop ≡ place → (s : State)
+pub at_token : {total : ℕ} {bytes stop : List ℕ} {pre : List Placed} → Lexes total bytes pre stop → (place : ℕ) → total - length stop ≡ place → (s : State)
     → (after : List Placed) → at_place place s (pre ++ after) ≡ at_place place (exec s (map token_of pre)) after
 at_token none_read place e s after = refl
 at_token (gap_then f l) place e s after = at_token l place e s after
@@ -317,15 +315,15 @@ stop_is bytes front rest stop e (k, f) h l =
     f ∙ ap (λ n. drop n bytes) c ∙ ap (drop (length front)) e ∙ drop-append_seam front rest
 
 -- an opening token at the end of a front of bytes, nested in so much
-record Deep (bytes front : List ℕ) (x : ℕ) (m : List ℕ) (place limit : ℕ) : Type 0 where
-  kinds : List Token
-  token : Token
-  byte : OpensWith x token
-  nested : limit ≤ height (exec start kinds) token
-  opening : is_opening token ≡ true
-  again : (m2 : List ℕ) (total : ℕ) → LexesToo total (front ++ x ∷ m2) (x ∷ m2) kinds
+pub record Deep (bytes front : List ℕ) (x : ℕ) (m : List ℕ) (place limit : ℕ) : Type 0 where
+  pub kinds : List Token
+  pub token : Token
+  pub byte : OpensWith x token
+  pub nested : limit ≤ height (exec start kinds) token
+  pub opening : is_opening token ≡ true
+  pub again : (m2 : List ℕ) (total : ℕ) → LexesToo total (front ++ x ∷ m2) (x ∷ m2) kinds
 
-deep_front : (front : List ℕ) (x : ℕ) (m : List ℕ) (place : ℕ) (tokens : List Placed) → length front ≡ place
+pub deep_front : (front : List ℕ) (x : ℕ) (m : List ℕ) (place : ℕ) (tokens : List Placed) → length front ≡ place
     → AreTokens (length (front ++ x ∷ m)) (front ++ x ∷ m) tokens → list_any (opens_at place) tokens ≡ true → (limit : ℕ) → limit ≤ at_place place start tokens
     → Deep (front ++ x ∷ m) front x m place limit
 deep_front front x m place tokens e p h limit l =
@@ -370,7 +368,7 @@ not_deep bytes front x m m2 place tokens e p b h d =
     let k = d.nested in
     omega arith
 
-in_order_all : {bytes : List ℕ} {tokens : List Placed} → AreTokens (length bytes) bytes tokens → InOrder (length bytes) 0 tokens
+pub in_order_all : {bytes : List ℕ} {tokens : List Placed} → AreTokens (length bytes) bytes tokens → InOrder (length bytes) 0 tokens
 in_order_all {bytes} {tokens} p = subst (λ n. InOrder (length bytes) n tokens) (omega arith) (in_order p (omega arith))
 
 pub derived_nowhere_deep : (bytes : List ℕ) (tokens : List Placed) (entries : List Entry) → AreTokens (length bytes) bytes tokens → AreEntries tokens entries

@@ -35,35 +35,35 @@ end_single {A} e f = let g = sym e ∙ f in absurd cc
 end_quote : {x : First} {a : List ℕ} {b : Bool} {A : Type 0} → x ≡ End → x ≡ Quote b a → A
 end_quote {A} e f = let g = sym e ∙ f in absurd cc
 
-gap_single : {x : First} {a c : List ℕ} {t : Token} {A : Type 0} → x ≡ Gap c → x ≡ Single t a → A
+pub gap_single : {x : First} {a c : List ℕ} {t : Token} {A : Type 0} → x ≡ Gap c → x ≡ Single t a → A
 gap_single {A} e f = let g = sym e ∙ f in absurd cc
 
-gap_quote : {x : First} {a c : List ℕ} {b : Bool} {A : Type 0} → x ≡ Gap c → x ≡ Quote b a → A
+pub gap_quote : {x : First} {a c : List ℕ} {b : Bool} {A : Type 0} → x ≡ Gap c → x ≡ Quote b a → A
 gap_quote {A} e f = let g = sym e ∙ f in absurd cc
 
-single_quote : {x : First} {a c : List ℕ} {t : Token} {b : Bool} {A : Type 0} → x ≡ Single t c → x ≡ Quote b a → A
+pub single_quote : {x : First} {a c : List ℕ} {t : Token} {b : Bool} {A : Type 0} → x ≡ Single t c → x ≡ Quote b a → A
 single_quote {A} e f = let g = sym e ∙ f in absurd cc
 
-gap_of : {x : First} {a b : List ℕ} → x ≡ Gap a → x ≡ Gap b → a ≡ b
+pub gap_of : {x : First} {a b : List ℕ} → x ≡ Gap a → x ≡ Gap b → a ≡ b
 gap_of e f = let g = sym e ∙ f in cc
 
-single_of : {x : First} {t u : Token} {a b : List ℕ} → x ≡ Single t a → x ≡ Single u b → (t ≡ u) × (a ≡ b)
+pub single_of : {x : First} {t u : Token} {a b : List ℕ} → x ≡ Single t a → x ≡ Single u b → (t ≡ u) × (a ≡ b)
 single_of e f = let g = sym e ∙ f in (cc, cc)
 
-quote_of : {x : First} {c d : Bool} {a b : List ℕ} → x ≡ Quote c a → x ≡ Quote d b → (c ≡ d) × (a ≡ b)
+pub quote_of : {x : First} {c d : Bool} {a b : List ℕ} → x ≡ Quote c a → x ≡ Quote d b → (c ≡ d) × (a ≡ b)
 quote_of e f = let g = sym e ∙ f in (cc, cc)
 
 tokens_too : {total : ℕ} {xs ys : List ℕ} {ts : List Placed} → xs ≡ ys → AreTokens total ys ts → AreTokens total xs ts
 tokens_too {total} {ts = ts} e p = subst (λ xs. AreTokens total xs ts) (sym e) p
 
-quoted_too : {c d : Bool} {xs ys t r : List ℕ} → c ≡ d → xs ≡ ys → IsInside d ys t r → IsInside c xs t r
+pub quoted_too : {c d : Bool} {xs ys t r : List ℕ} → c ≡ d → xs ≡ ys → IsInside d ys t r → IsInside c xs t r
 quoted_too {xs = xs} {t = t} {r = r} e f p = subst (λ c. IsInside c xs t r) (sym e) (inside_too f p)
 
-same_single : (total : ℕ) (bytes : List ℕ) {t u : Token} {r s : List ℕ} {ts us : List Placed} → (t ≡ u) × (r ≡ s) → ts ≡ us
+pub same_single : (total : ℕ) (bytes : List ℕ) {t u : Token} {r s : List ℕ} {ts us : List Placed} → (t ≡ u) × (r ≡ s) → ts ≡ us
     → (placed t (span_between total bytes r) ∷ ts) ≡ (placed u (span_between total bytes s) ∷ us)
 same_single total bytes e f = let g = e.0 in let h = e.1 in cc
 
-same_text : (total : ℕ) (bytes : List ℕ) {t u r s : List ℕ} {ts us : List Placed} → (t ≡ u) × (r ≡ s) → ts ≡ us
+pub same_text : (total : ℕ) (bytes : List ℕ) {t u r s : List ℕ} {ts us : List Placed} → (t ≡ u) × (r ≡ s) → ts ≡ us
     → (placed (Text t) (span_between total bytes r) ∷ ts) ≡ (placed (Text u) (span_between total bytes s) ∷ us)
 same_text total bytes e f = let g = e.0 in let h = e.1 in cc
 

@@ -12,6 +12,8 @@ use Rattle.opam_syntax.specs.Words.{is_word_byte, begins_word, joins, word_of, w
 use Rattle.opam_syntax.specs.Signs.{signs, sign_among, begins_with}
 use Rattle.opam_syntax.specs.Texts.{Piece, Closes, Gives, NoPiece, piece, quote, escape, decimal, hexadecimal, is_hexadecimal, simple, simple_escapes, after_spaces, IsInside, closes, gives}
 use Rattle.opam_syntax.specs.declared.token.Token.TheVariants.{Text}
+use Rattle.opam_syntax.specs.Lexes.{Lexes, none_read, gap_then, single_then, text_then}
+use Rattle.opam_syntax.specs.Following.{token_of}
 use Rattle.opam_syntax.specs.Tokens.{First, Gap, Single, Quote, NoToken, first, is_blank, after_line, after_comment, word_first, sign_first, Placed, placed, span_between}
 use Rattle.opam_syntax.proofs.Shorter.{first_shrinks, after_first, inside_shrinks}
 use Rattle.opam_syntax.proofs.Suffixes.{EndsWith, EndsFirst, ends_more, first_ends, inside_ends}
@@ -428,15 +430,6 @@ inside_read {long} {r = r} (gives {more = more} e p) x m m2 f o h l =
     let i = inside_read p x m m2 g.front o g.is l in
     record { front = i.front; is = i.is; too = gives g.too i.too }
 
--- tokens up to a place, and what stands from there on
-pub data Lexes (total : ℕ) : List ℕ → List Placed → List ℕ → Type 0 where
-  none_read : {bytes : List ℕ} → Lexes total bytes [] bytes
-  gap_then : {bytes rest stop : List ℕ} {tokens : List Placed} → first bytes ≡ Gap rest → Lexes total rest tokens stop → Lexes total bytes tokens stop
-  single_then : {bytes rest stop : List ℕ} {token : Token} {tokens : List Placed} → first bytes ≡ Single token rest → Lexes total rest tokens stop
-      → Lexes total bytes (placed token (span_between total bytes rest) ∷ tokens) stop
-  text_then : {bytes inside text rest stop : List ℕ} {long : Bool} {tokens : List Placed} → first bytes ≡ Quote long inside
-      → IsInside long inside text rest → Lexes total rest tokens stop → Lexes total bytes (placed (Text text) (span_between total bytes rest) ∷ tokens) stop
-
 pub lexes_end : {total : ℕ} {bytes stop : List ℕ} {tokens : List Placed} → Lexes total bytes tokens stop → EndsWith bytes stop
 lexes_end none_read = (zero, refl)
 lexes_end {bytes = bytes} (gap_then {rest = rest} e l) =
@@ -451,9 +444,6 @@ ends_short bytes stop (k, e) = let f : length stop ≡ length (drop k bytes) = a
 
 pub lexes_short : {total : ℕ} {bytes stop : List ℕ} {tokens : List Placed} → Lexes total bytes tokens stop → length stop ≤ length bytes
 lexes_short {bytes = bytes} {stop = stop} l = ends_short bytes stop (lexes_end l)
-
-abbrev pub token_of : Placed → Token
-token_of (placed token span) = token
 
 -- the same tokens up to the byte, whatever stands after it
 pub record LexesToo (total : ℕ) (bytes stop : List ℕ) (kinds : List Token) : Type 0 where

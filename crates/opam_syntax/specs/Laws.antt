@@ -1,13 +1,20 @@
 -- Laws of the grammar and of the faults.
-use Rattle.std.specs.Prelude.{◌≡◌, ◌≢◌, ℕ, List, length, IsTrue}
+use Rattle.std.specs.Prelude.{◌≡◌, ◌≢◌, ℕ, ◌<◌, ◌≤◌, List, [], ◌∷◌, ◌++◌, length, drop, map, false, IsTrue, IsFalse}
+use Rattle.std.specs.declared.option.Option.TheVariants.{Some}
 use Rattle.std.specs.List.{list_all}
 use Rattle.opam_syntax.specs.declared.fault.SyntaxFault.{SyntaxFault}
-use Rattle.opam_syntax.specs.declared.fault.SyntaxFault.TheVariants.{Memory}
+use Rattle.opam_syntax.specs.declared.fault.SyntaxFault.TheVariants.{Ended, Deep, Memory}
+use Rattle.opam_syntax.specs.declared.limits.TheConstants.{NESTING_LIMIT}
+use Rattle.opam_syntax.specs.declared.token.Token.{Token}
 use Rattle.opam_syntax.specs.declared.file.File.{File}
-use Rattle.opam_syntax.specs.Files.{Entry, Derives}
+use Rattle.opam_syntax.specs.Tokens.{Placed, AreTokens, first, Single}
+use Rattle.opam_syntax.specs.Files.{Entry, AreEntries, Derives}
+use Rattle.opam_syntax.specs.Lexes.{Lexes}
+use Rattle.opam_syntax.specs.Following.{TokenControl, at_entry, token_of, tokens_followed, file_may_end}
+use Rattle.opam_syntax.specs.Heights.{NestsBelow, height_start, height_after, token_height}
 use Rattle.opam_syntax.specs.Trees.{items_of, IsTextOf}
 use Rattle.opam_syntax.specs.Spans.{span_within, contents_within}
-use Rattle.opam_syntax.specs.Faults.{IsFaultOf, IsNowhereDeep, IsStrayAt, IsEndedAt, IsDoubledAt}
+use Rattle.opam_syntax.specs.Faults.{is_opening, begins_longer, BeginsFile, IsFaultOf, IsNowhereDeep, IsStrayAt, IsEndedAt, IsDoubledAt}
 
 -- bytes spell at most one tree: two files of one text have the same items, at the same places
 abbrev pub OneTreeForBytes : Type 0
@@ -40,3 +47,27 @@ FilesAreFaultless = (bytes : List ℕ) (file : File) (fault : SyntaxFault) → I
 abbrev pub SpansAreWithin : Type 0
 SpansAreWithin = (bytes : List ℕ) (file : File) → IsTextOf bytes file
     → IsTrue (list_all (λ item. contents_within (length bytes) item.1) (items_of file)) × IsTrue (list_all (span_within (length bytes)) file.places)
+
+-- the tokens of a file follow one another, up to where it may end
+abbrev pub FileTokensFollow : Type 0
+FileTokensFollow = (tokens : List Placed) (entries : List Entry) → AreEntries tokens entries
+    → (c : TokenControl) × (tokens_followed (at_entry false) (map token_of tokens) ≡ Some c) × IsTrue (file_may_end c.expected c.frames c.section)
+
+-- bytes that spell tokens which follow one another begin a file
+abbrev pub FollowingTokensBegin : Type 0
+FollowingTokensBegin = (bytes : List ℕ) (tokens : List Placed) (c : TokenControl) → AreTokens (length bytes) bytes tokens
+    → tokens_followed (at_entry false) (map token_of tokens) ≡ Some c → BeginsFile bytes
+
+-- where a file may not end after such tokens, and none is nested in too many, the bytes have ended early
+abbrev pub EarlyEndIsTold : Type 0
+EarlyEndIsTold = (bytes : List ℕ) (tokens : List Placed) (c : TokenControl) → AreTokens (length bytes) bytes tokens
+    → tokens_followed (at_entry false) (map token_of tokens) ≡ Some c → IsFalse (file_may_end c.expected c.frames c.section)
+    → NestsBelow NESTING_LIMIT height_start tokens → IsFaultOf bytes (Ended (length bytes))
+
+-- the first bracket or prefix operator that the tokens before it nest in 64 others, where it may follow them, is the place that is too deep
+abbrev pub DeepIsTold : Type 0
+DeepIsTold = (bytes rest : List ℕ) (place : ℕ) (tokens : List Placed) (token : Token) (c : TokenControl) → place < length bytes
+    → Lexes (length bytes) bytes tokens (drop place bytes) → first (drop place bytes) ≡ Single token rest → IsTrue (is_opening token)
+    → IsFalse (begins_longer (drop place bytes)) → tokens_followed (at_entry false) (map token_of tokens ++ token ∷ []) ≡ Some c
+    → NESTING_LIMIT ≤ token_height (height_after height_start (map token_of tokens)) token → NestsBelow NESTING_LIMIT height_start tokens
+    → IsFaultOf bytes (Deep place)

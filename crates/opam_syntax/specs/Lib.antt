@@ -12,6 +12,9 @@ pub mod Spelling
 pub mod Spans
 pub mod Samples
 pub mod Rows
+pub mod Lexes
+pub mod Following
+pub mod Heights
 pub mod Laws
 pub mod Printed
 pub mod Read

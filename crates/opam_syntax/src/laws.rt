@@ -1,5 +1,5 @@
 // Laws of the grammar.
-ghost use Rattle.opam_syntax.specs.Laws.{FilesAreFaultless, FilesAreNowhereDeep, FilesHaveNoFault, OneDerivation, OneFaultForBytes, OneTreeForBytes, SpansAreWithin};
+ghost use Rattle.opam_syntax.specs.Laws.{DeepIsTold, EarlyEndIsTold, FileTokensFollow, FilesAreFaultless, FilesAreNowhereDeep, FilesHaveNoFault, FollowingTokensBegin, OneDerivation, OneFaultForBytes, OneTreeForBytes, SpansAreWithin};
 
 /// Bytes spell at most one tree: two files of one text have the same items, at the same places.
 pub fn one_tree_for_bytes()
@@ -34,4 +34,24 @@ pub fn files_are_faultless()
 /// Every node and every item of a file has a span of some bytes of its text.
 pub fn spans_are_within()
     ensures { SpansAreWithin }
+{}
+
+/// The tokens of a file follow one another, up to where it may end.
+pub fn file_tokens_follow()
+    ensures { FileTokensFollow }
+{}
+
+/// Bytes that spell tokens which follow one another begin a file.
+pub fn following_tokens_begin()
+    ensures { FollowingTokensBegin }
+{}
+
+/// Bytes that spell such tokens have ended early where a file may not end after them, if none is too deep.
+pub fn early_end_is_told()
+    ensures { EarlyEndIsTold }
+{}
+
+/// The first bracket or prefix operator that the tokens before it nest in 64 others is the place that is too deep.
+pub fn deep_is_told()
+    ensures { DeepIsTold }
 {}

@@ -26,7 +26,8 @@ mod words;
 pub use fault::SyntaxFault;
 pub use file::{File, Item, Key, Label, Word};
 pub use laws::{
-    files_are_faultless, files_are_nowhere_deep, files_have_no_fault, one_derivation,
+    deep_is_told, early_end_is_told, file_tokens_follow, files_are_faultless,
+    files_are_nowhere_deep, files_have_no_fault, following_tokens_begin, one_derivation,
     one_fault_for_bytes, one_tree_for_bytes, spans_are_within,
 };
 pub use limits::{FILE_LIMIT, NESTING_LIMIT};
