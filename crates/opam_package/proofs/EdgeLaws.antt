@@ -1,11 +1,10 @@
 -- Edges are needs, and a package neither needs nor forbids itself.
-use Rattle.std.proofs.Common.{◌≡◌, ℕ, ◌&&◌, ◌||◌, Bool, true, false, not, bytes_eq, List, [], ◌∷◌, IsTrue, sym, ap, refl, ◌∙◌}
-use Rattle.std.specs.List.{list_any}
+use Rattle.std.proofs.Common.{◌≡◌, ℕ, ◌&&◌, ◌||◌, Bool, true, false, not, bytes_eq, List, [], ◌∷◌, IsTrue, ap, refl}
 use Rattle.std.proofs.lemmas.Slice.Eq.{bytes_eq-Decides}
 use Rattle.opam_names.specs.declared.packages.Pkg.{Pkg}
 use Rattle.opam_package.specs.declared.package.Need.{Need}
 use Rattle.opam_package.specs.declared.package.Package.{Package}
-use Rattle.opam_package.specs.Dependencies.{is_built_with, is_edge, is_forbidden, is_need, is_other, is_run_with, meets_one, names_it}
+use Rattle.opam_package.specs.Dependencies.{is_built_with, is_edge, is_need, is_other, is_run_with, meets_one, names_it}
 use Rattle.opam_package.specs.PackageLaws.{EdgesAreNeeds}
 
 or_left : (a b c d : Bool) → (a ≡ true → c ≡ true) → (b ≡ true → d ≡ true) → (a || b) ≡ true → (c || d) ≡ true

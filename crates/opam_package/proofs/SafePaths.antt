@@ -3,7 +3,6 @@ use Rattle.std.proofs.Common.{◌≡◌, ℕ, Bool, true, false, not, ◌||◌, 
 use Rattle.opam_names.specs.Paths.{is_relative_path}
 use Rattle.opam_syntax.specs.Signs.{begins_with}
 use Rattle.opam_syntax.specs.declared.tree.Span.{Span}
-use Rattle.opam_package.specs.declared.fault.PackageFault.{PackageFault}
 use Rattle.opam_package.specs.declared.fault.PackageFault.TheVariants.{Unsafe}
 use Rattle.opam_package.specs.declared.limits.TheConstants.{SUBST_LIMIT}
 use Rattle.opam_package.specs.Relatives.{is_unsafe, path_faults, shortened}

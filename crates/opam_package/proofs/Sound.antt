@@ -1,8 +1,6 @@
 -- Values without faults: of several without a fault none has one.
 use Rattle.std.proofs.Common.{◌≡◌, ℕ, ◌+◌, ◌<◌, List, [], ◌∷◌, ◌++◌, length, get_or, drop, sym, ap, refl, ◌∙◌}
 use Rattle.std.specs.List.{flat_map}
-use Rattle.std.specs.declared.option.Option.{Option}
-use Rattle.std.specs.declared.option.Option.TheVariants.{None, Some}
 use Rattle.std.proofs.lemmas.List.{drop_more}
 use Rattle.opam_package.specs.declared.fault.PackageFault.{PackageFault}
 

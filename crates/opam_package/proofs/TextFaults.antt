@@ -14,7 +14,7 @@ use Rattle.opam_package.specs.declared.fault.PackageFault.{PackageFault}
 use Rattle.opam_package.specs.declared.fault.PackageFault.TheVariants.{Memory}
 use Rattle.opam_package.specs.declared.package.Package.{Package}
 use Rattle.opam_package.specs.FieldFaults.{file_faults}
-use Rattle.opam_package.specs.PackageFaults.{IsFirstOf, first_fault}
+use Rattle.opam_package.specs.PackageFaults.{IsFirstOf}
 use Rattle.opam_package.specs.Packages.{package_in}
 use Rattle.opam_package.specs.PackageTexts.{IsPackageFault, IsPackageText, no_memory, no_file, faulty, told_syntax}
 

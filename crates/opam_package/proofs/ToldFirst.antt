@@ -1,10 +1,10 @@
 -- The fault that is told of several is one of them, and none of the others comes before it.
-use Rattle.std.proofs.Common.{◌≡◌, ◌⊎◌, inl, inr, ⊎_elim, Bool, true, false, if◌then◌else◌, List, [], ◌∷◌, sym, ap, refl, ◌∙◌, subst}
+use Rattle.std.proofs.Common.{◌≡◌, ◌⊎◌, inl, inr, ⊎_elim, Bool, true, false, if◌then◌else◌, List, [], ◌∷◌, refl, subst}
 use Rattle.std.specs.declared.option.Option.{Option}
 use Rattle.std.specs.declared.option.Option.TheVariants.{None, Some}
 use Rattle.opam_package.specs.declared.fault.PackageFault.{PackageFault}
 use Rattle.opam_package.specs.PackageFaults.{first_fault, is_sooner, sooner}
-use Rattle.opam_package.specs.PackageLaws.{IsListed, IsToldFirst, TheFirstIsTold}
+use Rattle.opam_package.specs.PackageLaws.{IsListed, TheFirstIsTold}
 use Rattle.opam_package.proofs.FirstFaults.{not_sooner_on, sooner_back, sooner_itself}
 
 some_fault : (x : PackageFault) → Some x ≡ None → ⊥

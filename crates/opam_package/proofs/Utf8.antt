@@ -1,12 +1,10 @@
 -- Whether bytes are a text, as a test and as std says it.
-use Rattle.std.proofs.Common.{◌≡◌, ℕ, Bool, true, false, ◌&&◌, List, [], ◌∷◌, if◌then◌else◌, sym, ap, refl, ◌∙◌}
+use Rattle.std.proofs.Common.{◌≡◌, ℕ, Bool, true, false, ◌&&◌, List, if◌then◌else◌, sym, ap, refl, ◌∙◌}
 use Rattle.std.specs.List.{list_all}
-use Rattle.std.specs.declared.option.Option.{Option}
 use Rattle.std.specs.declared.option.Option.TheVariants.{None, Some}
 use Rattle.std.specs.Str.{is_utf8, IsUtf8}
 use Rattle.std.proofs.lemmas.Str.{IsUtf8-from_is_utf8, is_utf8-from_IsUtf8}
 use Rattle.opam_names.specs.Paths.{is_not_zero}
-use Rattle.opam_filter.specs.Faults.{is_text}
 use Rattle.opam_package.specs.Forms.{text_of_bytes}
 
 both_hold : (b z : Bool) → b ≡ true → z ≡ true → (b && z) ≡ true

@@ -10,7 +10,6 @@ use Rattle.opam_syntax.specs.Files.{Contents, FieldContents, SectionContents}
 use Rattle.opam_syntax.specs.Signs.{begins_with}
 use Rattle.opam_syntax.specs.Trees.{items_of}
 use Rattle.opam_syntax.specs.declared.file.File.{File}
-use Rattle.opam_syntax.specs.declared.file.Key.{Key}
 use Rattle.opam_syntax.specs.declared.tree.Node.{Node}
 use Rattle.opam_filter.specs.Reductions.{reduced}
 use Rattle.opam_filter.specs.Scopes.{plain}
@@ -19,7 +18,6 @@ use Rattle.opam_filter.specs.Trees.{read}
 use Rattle.opam_filter.specs.Truths.{is_yes}
 use Rattle.opam_filter.specs.Values.{filter_truth}
 use Rattle.opam_filter.specs.Variables.{Values}
-use Rattle.opam_filter.specs.declared.formula.Formula.{Formula}
 use Rattle.opam_filter.specs.declared.formula.Reduced.{Reduced}
 use Rattle.opam_filter.specs.declared.truth.VarValue.TheVariants.{Flag, Text}
 use Rattle.opam_package.specs.declared.package.Command.{Command}

@@ -1,8 +1,5 @@
-use Rattle.std.proofs.Common.{◌≡◌, ℕ, List, filter, fold, map}
-use Rattle.opam_syntax.specs.Files.{Contents}
+use Rattle.std.proofs.Common.{◌≡◌}
 use Rattle.opam_syntax.specs.Trees.{items_of}
-use Rattle.opam_syntax.specs.declared.file.Key.{Key}
-use Rattle.opam_package.specs.Fields.{FileItems}
 use Rattle.opam_package.specs.Packages as packages
 use Rattle.opam_package.proofs.Told.{told}
 use Rattle.opam_package.proofs.sources.refused_names.Given as goal
