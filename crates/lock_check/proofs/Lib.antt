@@ -4,3 +4,4 @@ pub mod Names
 pub mod Behind
 pub mod Bound
 pub mod LockRead
+pub mod Ordered

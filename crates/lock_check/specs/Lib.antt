@@ -1,3 +1,6 @@
 pub mod LockFaults
 pub mod LockItems
 pub mod LockTexts
+pub mod Violations
+pub mod Targets
+pub mod Found

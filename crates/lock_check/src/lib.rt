@@ -6,7 +6,12 @@ mod lock;
 mod lock_fault;
 mod lock_items;
 mod lock_texts;
+mod targets;
+mod violation;
+mod violations;
 
 pub use lock::Lock;
 pub use lock_fault::LockFault;
 pub use lock_texts::read_lock;
+pub use targets::reinstall_target;
+pub use violation::{Violation, What, Who};

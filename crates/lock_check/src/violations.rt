@@ -1,0 +1,223 @@
+// What stands against the members of a target.
+ghost use Rattle.std.specs.Prelude.{[], ◌≡◌, ◌++◌, IfOk, OnOk, bytes_eq, find, map};
+ghost use Rattle.std.specs.List.{list_any};
+ghost use Rattle.std.specs.Option.{option_copied};
+ghost use Rattle.opam_names.specs.ByteOrders.{NeverFallsBy};
+ghost use Rattle.opam_filter.specs.Sets.{Rises};
+ghost use Rattle.lock_check.specs.Violations as violations;
+ghost use Rattle.lock_check.specs.Violations.{pkgs_of, told_of};
+ghost use Rattle.lock_check.specs.declared.violation.What.TheVariants as kinds;
+
+use crate::{Violation, What, Who};
+use opam_filter::holds;
+use opam_names::{Items, OutOfMemory, Pkg, Text};
+use opam_package::{Member, Need, Package, forbids};
+use std::alloc::Global;
+use std::collections::BTreeSet;
+
+fn is_need_met(need: &Need, set: &[Pkg]) -> bool
+    requires { Rises set.now }
+    ensures { result ≡ violations.is_need_met set.now need.now }
+{
+    holds(&need.runtime, set) && holds(&need.building, set) && holds(&need.full, set)
+}
+
+/// Whether all items of `depends` are met in a set.
+pub(crate) fn is_met_among(dependent: &Package, set: &[Pkg]) -> bool
+    requires { Rises set.now }
+    ensures { result ≡ violations.is_met_among set.now dependent.now }
+{
+    let needs = dependent.items.as_slice();
+    for need in needs {
+        if !is_need_met(need, set) {
+            return false;
+        }
+    }
+    true
+}
+
+fn note_unavailable(
+    fresh: bool,
+    dependent: &Package,
+    whats: &mut Items<What>,
+) -> Result<(), OutOfMemory>
+    ensures { OnOk result (whats.new ≡ whats.old ++ violations.unavailable fresh dependent.now) }
+{
+    if fresh && !dependent.available {
+        return whats.push(What::Unavailable);
+    }
+    Ok(())
+}
+
+fn note_unmet(set: &[Pkg], needs: &[Need], whats: &mut Items<What>) -> Result<(), OutOfMemory>
+    requires { Rises set.now }
+    ensures { OnOk result (whats.new ≡ whats.old ++ violations.unmet_from set.now 1 needs.now) }
+{
+    let mut number = 1u32;
+    for need in needs {
+        if !is_need_met(need, set) {
+            whats.push(What::Unmet(number))?;
+        }
+        number = number.saturating_add(1);
+    }
+    Ok(())
+}
+
+fn note_conflicts(
+    alloc: Global,
+    set: &[Pkg],
+    dependent: &Package,
+    whats: &mut Items<What>,
+) -> Result<(), OutOfMemory>
+    ensures { OnOk result (whats.new ≡ whats.old ++ violations.conflicts_among set.now dependent.now) }
+{
+    for other in set {
+        if forbids(dependent, other) {
+            whats.push(What::Conflict(other.copy(alloc)?))?;
+        }
+    }
+    Ok(())
+}
+
+fn has_class(classes: &[Text], class: &Text) -> bool
+    ensures { result ≡ list_any (bytes_eq class.now) classes.now }
+{
+    for other in classes {
+        if class == other {
+            return true;
+        }
+    }
+    false
+}
+
+fn shares_class(dependent: &Package, class: &Text, member: &Member) -> bool
+    ensures { result ≡ violations.shares_class dependent.now class.now member.now }
+{
+    member.package.pkg.name != dependent.pkg.name
+        && has_class(member.package.classes.as_slice(), class)
+}
+
+// The least other member that has the class.
+fn sharer<'a>(members: &'a [Member], dependent: &Package, class: &Text) -> Option<&'a Member>
+    ensures { option_copied result ≡ find (violations.shares_class dependent.now class.now) members.now }
+{
+    for member in members {
+        if shares_class(dependent, class, member) {
+            return Some(member);
+        }
+    }
+    None
+}
+
+fn note_class(
+    alloc: Global,
+    class: &Text,
+    member: Option<&Member>,
+    whats: &mut Items<What>,
+) -> Result<(), OutOfMemory>
+    ensures { OnOk result (whats.new ≡ whats.old ++ violations.class_with class.now (option_copied member.entry)) }
+{
+    match member {
+        None => Ok(()),
+        Some(member) => {
+            let other = member.package.pkg.copy(alloc)?;
+            whats.push(What::Class(class.copy(alloc)?, other))
+        }
+    }
+}
+
+fn is_told(told: &BTreeSet<Text>, class: &Text) -> bool
+    ensures { result ≡ list_any (bytes_eq class.now) told.now.keys }
+{
+    told.contains(class)
+}
+
+fn note_classes(
+    alloc: Global,
+    members: &[Member],
+    dependent: &Package,
+    classes: &[Text],
+    whats: &mut Items<What>,
+) -> Result<(), OutOfMemory>
+    ensures { OnOk result (whats.new ≡ whats.old ++ violations.shared_behind members.now dependent.now [] classes.now) }
+{
+    let mut told = BTreeSet::new(alloc);
+    for class in classes {
+        if !is_told(&told, class) {
+            note_class(alloc, class, sharer(members, dependent, class), whats)?;
+        }
+        told.insert(class.copy(alloc)?)?;
+    }
+    Ok(())
+}
+
+fn note_refused(alloc: Global, refused: &[Text], whats: &mut Items<What>) -> Result<(), OutOfMemory>
+    ensures { OnOk result (whats.new ≡ whats.old ++ map kinds.Refused refused.now) }
+{
+    for name in refused {
+        whats.push(What::Refused(name.copy(alloc)?))?;
+    }
+    Ok(())
+}
+
+// All that stands against a member, kind by kind.
+fn whats_of(
+    alloc: Global,
+    members: &[Member],
+    set: &[Pkg],
+    fresh: bool,
+    dependent: &Package,
+) -> Result<Items<What>, OutOfMemory>
+    requires set { set.now ≡ pkgs_of members.now }
+    requires rises { Rises set.now }
+    ensures { IfOk result (λ whats. whats ≡ violations.whats_of members.now fresh dependent.now) }
+{
+    let mut whats = Items::new(alloc);
+    note_unavailable(fresh, dependent, &mut whats)?;
+    note_unmet(set, dependent.items.as_slice(), &mut whats)?;
+    note_conflicts(alloc, set, dependent, &mut whats)?;
+    note_classes(
+        alloc,
+        members,
+        dependent,
+        dependent.classes.as_slice(),
+        &mut whats,
+    )?;
+    if fresh {
+        note_refused(alloc, dependent.refused.as_slice(), &mut whats)?;
+    }
+    Ok(whats)
+}
+
+fn tell_all(
+    alloc: Global,
+    pkg: &Pkg,
+    whats: Items<What>,
+    told: &mut Items<Violation>,
+) -> Result<(), OutOfMemory>
+    ensures { OnOk result (told.new ≡ told.old ++ map (told_of pkg.now) whats) }
+{
+    for what in whats.into_vec() {
+        let who = Who::Pkg(pkg.copy(alloc)?);
+        told.push(Violation { who, what })?;
+    }
+    Ok(())
+}
+
+/// What is told already, and then all that stands against members none of whose texts came from the repository.
+pub(crate) fn tell_installed(
+    alloc: Global,
+    members: &[Member],
+    set: &[Pkg],
+    told: &mut Items<Violation>,
+) -> Result<(), OutOfMemory>
+    requires set { set.now ≡ pkgs_of members.now }
+    requires rises { Rises set.now }
+    ensures { OnOk result (told.new ≡ told.old ++ violations.violations_among members.now []) }
+{
+    for member in members {
+        let whats = whats_of(alloc, members, set, false, &member.package)?;
+        tell_all(alloc, &member.package.pkg, whats, told)?;
+    }
+    Ok(())
+}
