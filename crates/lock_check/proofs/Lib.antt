@@ -5,3 +5,8 @@ pub mod Behind
 pub mod Bound
 pub mod LockRead
 pub mod Ordered
+pub mod Members
+pub mod Distinct
+pub mod Largest
+pub mod Passing
+pub mod Removed

@@ -4,3 +4,5 @@ pub mod LockTexts
 pub mod Violations
 pub mod Targets
 pub mod Found
+pub mod Removals
+pub mod Passes

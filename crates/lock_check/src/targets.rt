@@ -1,16 +1,19 @@
 // What a switch is to become where packages are built once more.
 ghost use Rattle.std.specs.Prelude.{[], ◌≡◌, ◌∷◌, ◌++◌, IfOk, OnOk, bytes_eq, filter, map};
-ghost use Rattle.std.specs.List.{IsDistinct};
-ghost use Rattle.opam_names.specs.ByteOrders.{NeverFallsBy, RisesBy};
+ghost use Rattle.std.specs.List.{IsDistinct, list_any};
+ghost use Rattle.opam_names.specs.ByteOrders.{NeverFallsBy, RisesBy, each_once};
+ghost use Rattle.lock_check.specs.Removals.{IsRemoved, not_named, remove_violations};
 ghost use Rattle.lock_check.specs.Found.{absents_in, is_name_in};
-ghost use Rattle.lock_check.specs.Targets.{by_name, member_name, reinstall_violations, reinstalled};
+ghost use Rattle.lock_check.specs.Targets.{by_name, member_name, reinstall_violations, reinstalled, told_absents};
 ghost use Rattle.lock_check.specs.Violations as violations;
 
+use crate::removal::largest_met;
 use crate::violations::tell_installed;
 use crate::{Violation, What, Who};
-use opam_names::{ByteKey, Items, Name, OutOfMemory, Pkg, has_bytes, order_is_stable};
+use opam_names::{ByteKey, Items, Name, OutOfMemory, Pkg, has_bytes, order_is_stable, texts_rise};
 use opam_package::{Member, Target};
 use std::alloc::Global;
+use std::collections::BTreeSet;
 
 // A member that stands by its name.
 #[derive(Drop)]
@@ -50,7 +53,7 @@ fn members_of(alloc: Global, copies: Items<Named>) -> Result<Items<Member>, OutO
     Ok(members)
 }
 
-fn sort_members(alloc: Global, members: &[Member]) -> Result<Items<Member>, OutOfMemory>
+pub(crate) fn sort_members(alloc: Global, members: &[Member]) -> Result<Items<Member>, OutOfMemory>
     requires { IsDistinct bytes_eq (map member_name members.now) }
     ensures sorted { IfOk result (λ sorted. sorted ≡ by_name members.now) }
     ensures rises { IfOk result (λ sorted. RisesBy member_name sorted) }
@@ -61,7 +64,7 @@ fn sort_members(alloc: Global, members: &[Member]) -> Result<Items<Member>, OutO
     members_of(alloc, copies)
 }
 
-fn pkgs_of(alloc: Global, members: &[Member]) -> Result<Items<Pkg>, OutOfMemory>
+pub(crate) fn pkgs_of(alloc: Global, members: &[Member]) -> Result<Items<Pkg>, OutOfMemory>
     ensures { IfOk result (λ pkgs. pkgs ≡ violations.pkgs_of members.now) }
 {
     let mut pkgs = Items::new(alloc);
@@ -154,6 +157,93 @@ pub fn reinstall_target(
     told.sort_by_bytes()?;
     let target = Target {
         redo: names_in(alloc, set.as_slice(), names)?,
+        roots: names_in(alloc, set.as_slice(), roots)?,
+        fresh: Items::new(alloc),
+        members,
+    };
+    Ok((target, told))
+}
+
+fn name_set(alloc: Global, names: &[Name]) -> Result<BTreeSet<Name>, OutOfMemory>
+    ensures { IfOk result (λ set. set.keys ≡ each_once names.now) }
+{
+    let mut set = BTreeSet::new(alloc);
+    for name in names {
+        set.insert(name.copy(alloc)?)?;
+    }
+    Ok(set)
+}
+
+fn is_named(named: &BTreeSet<Name>, member: &Member) -> bool
+    ensures { result ≡ list_any (bytes_eq (member_name member.now)) named.now.keys }
+{
+    named.contains(&member.package.pkg.name)
+}
+
+fn not_named_in(
+    alloc: Global,
+    installed: &[Member],
+    named: &BTreeSet<Name>,
+) -> Result<Items<Member>, OutOfMemory>
+    ensures { IfOk result (λ others. others ≡ not_named installed.now named.now.keys) }
+{
+    let mut others = Items::new(alloc);
+    for member in installed {
+        if !is_named(named, member) {
+            others.push(member.copy(alloc)?)?;
+        }
+    }
+    Ok(others)
+}
+
+// The installed packages that are not named.
+fn not_named(
+    alloc: Global,
+    installed: &[Member],
+    names: &[Name],
+) -> Result<Items<Member>, OutOfMemory>
+    ensures { IfOk result (λ others. others ≡ not_named installed.now names.now) }
+{
+    texts_rise();
+    let named = name_set(alloc, names)?;
+    not_named_in(alloc, installed, &named)
+}
+
+// What is told of the names of packages that are not installed.
+fn absents_of(
+    alloc: Global,
+    installed: &[Member],
+    names: &[Name],
+) -> Result<Items<Violation>, OutOfMemory>
+    requires { IsDistinct bytes_eq (map member_name installed.now) }
+    ensures { IfOk result (λ told. told ≡ told_absents installed.now names.now) }
+{
+    let members = sort_members(alloc, installed)?;
+    let set = pkgs_of(alloc, members.as_slice())?;
+    absents(alloc, set.as_slice(), names)
+}
+
+/// What a switch is to become where the named packages are removed: the largest part of the others in which all items of each are
+/// met. Besides what stands against it: names that are not installed, and all that stands against what is left. The roots that
+/// are handed in are those that the switch has.
+pub fn remove_target(
+    alloc: Global,
+    installed: &[Member],
+    names: &[Name],
+    roots: &[Name],
+) -> Result<(Target, Items<Violation>), OutOfMemory>
+    requires { IsDistinct bytes_eq (map member_name installed.now) }
+    ensures target { IfOk result (λ made. IsRemoved installed.now names.now roots.now made.0) }
+    ensures violations { IfOk result (λ made. made.1 ≡ remove_violations installed.now names.now made.0.members) }
+{
+    let others = not_named(alloc, installed, names)?;
+    let members = largest_met(alloc, others.as_slice())?;
+    let set = pkgs_of(alloc, members.as_slice())?;
+    let mut told = absents_of(alloc, installed, names)?;
+    tell_installed(alloc, members.as_slice(), set.as_slice(), &mut told)?;
+    told.sort_by_bytes()?;
+    let target = Target {
+        redo: Items::new(alloc),
         roots: names_in(alloc, set.as_slice(), roots)?,
         fresh: Items::new(alloc),
         members,
