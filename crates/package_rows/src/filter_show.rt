@@ -129,7 +129,7 @@ fn push_formulas(text: &mut String, name: &str, parts: &[Formula]) -> Result<(),
     Ok(text.push_str(")")?)
 }
 
-#[cycle(test)]
+#[cycle(showing)]
 fn push_test(text: &mut String, test: &Test) -> Result<(), Fault> {
     match test {
         Test::Known(truth) => Ok(text.push_str(truth_word(*truth))?),
@@ -146,7 +146,7 @@ fn push_test(text: &mut String, test: &Test) -> Result<(), Fault> {
     }
 }
 
-#[cycle(test)]
+#[cycle(showing)]
 fn push_tests(text: &mut String, name: &str, parts: &[Test]) -> Result<(), Fault> {
     text.push_str(name)?;
     text.push_str("(")?;
