@@ -6,7 +6,8 @@
 # takes; and the most memory that a process held, less what it held with the texts loaded. The reader is proved and built in
 # a copy, which takes minutes.
 #
-# Aims, and what falls short of them (measured on 4 processors beside several provers, which slows the C loop to half):
+# Aims, and what falls short of them (measured on 4 processors beside several provers, which slows the C loop to half, and by
+# an earlier form of the measuring part, whose runs were shorter; this form was tried on texts of an eighth alone):
 # - 50 MB/s. Texts of a few bytes a token have less: 11 to 17 small fields, 12 to 16 a list of texts of one byte, 3 deep
 #   nests; one section of short fields 35. Long texts have 220 and more, comments 640.
 # - Five times `opam-file-format`: 4.6 to 6 for small fields, 7 to 12 for the list; 2 for deep nests.
