@@ -1,0 +1,12 @@
+pub mod TokenKinds
+pub mod Splits
+pub mod TextSplits
+pub mod WordSplits
+pub mod WordKinds
+pub mod WordEnds
+pub mod FirstSplits
+pub mod GoingOn
+pub mod Relexed
+pub mod Begun
+pub mod DeepPlaces
+pub mod Worked

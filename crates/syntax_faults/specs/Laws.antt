@@ -1,0 +1,58 @@
+-- Laws of bytes that begin a file, and of the places of faults.
+use Rattle.std.specs.Prelude.{◌≡◌, ℕ, ◌<◌, ◌≤◌, List, [], ◌∷◌, ◌++◌, length, drop, map, false, IsTrue}
+use Rattle.std.specs.declared.option.Option.TheVariants.{None, Some}
+use Rattle.opam_syntax.specs.declared.fault.SyntaxFault.TheVariants.{Ended, Stray}
+use Rattle.opam_syntax.specs.declared.limits.TheConstants.{NESTING_LIMIT}
+use Rattle.opam_syntax.specs.declared.token.Token.{Token}
+use Rattle.opam_syntax.specs.Faults.{is_opening, IsDerived, BeginsFile, IsTooDeep, IsNowhereDeep, IsFaultOf}
+use Rattle.opam_syntax.specs.Following.{TokenControl, at_entry, tokens_followed, token_of}
+use Rattle.opam_syntax.specs.Heights.{height_start, height_after, token_height}
+use Rattle.opam_syntax.specs.Lexes.{Lexes}
+use Rattle.opam_syntax.specs.Tokens.{Placed, first, Single}
+use Rattle.syntax_faults.specs.Endings.{GoesOn, begins_apart}
+
+-- bytes begin a file exactly where one of the endings makes of them tokens that may follow one another
+abbrev pub BeginningsAreTold : Type 0
+BeginningsAreTold = (bytes : List ℕ) → (BeginsFile bytes → GoesOn (at_entry false) bytes) × (GoesOn (at_entry false) bytes → BeginsFile bytes)
+
+-- up to any place after settled tokens that follow one another, they do exactly where an ending makes of the rest tokens that may follow
+abbrev pub TailsAreTold : Type 0
+TailsAreTold = (front tail rest : List ℕ) (tokens : List Placed) (c : TokenControl)
+    → Lexes (length (front ++ tail ++ rest)) (front ++ tail ++ rest) tokens (tail ++ rest) → IsTrue (begins_apart tail)
+    → tokens_followed (at_entry false) (map token_of tokens) ≡ Some c → (BeginsFile (front ++ tail) → GoesOn c tail) × (GoesOn c tail → BeginsFile (front ++ tail))
+
+-- after settled tokens that do not follow one another, bytes begin no file
+abbrev pub StrayTokensAreTold : Type 0
+StrayTokensAreTold = (front tail rest : List ℕ) (tokens : List Placed)
+    → Lexes (length (front ++ tail ++ rest)) (front ++ tail ++ rest) tokens (tail ++ rest) → IsTrue (begins_apart tail)
+    → tokens_followed (at_entry false) (map token_of tokens) ≡ None → ¬ (BeginsFile (front ++ tail))
+
+-- the byte with which the rest after settled tokens stops to go on is the stray one
+abbrev pub StrayIsTold : Type 0
+StrayIsTold = (front tail rest : List ℕ) (byte : ℕ) (tokens : List Placed) (c : TokenControl)
+    → Lexes (length (front ++ tail ++ byte ∷ rest)) (front ++ tail ++ byte ∷ rest) tokens (tail ++ byte ∷ rest) → IsTrue (begins_apart tail)
+    → tokens_followed (at_entry false) (map token_of tokens) ≡ Some c → GoesOn c tail → ¬ (GoesOn c (tail ++ byte ∷ []))
+    → IsNowhereDeep (front ++ tail ++ byte ∷ rest) → IsFaultOf (front ++ tail ++ byte ∷ rest) (Stray (length (front ++ tail)))
+
+-- where the rest goes on, and the bytes are no file, they have ended early
+abbrev pub EndedInsideIsTold : Type 0
+EndedInsideIsTold = (front tail : List ℕ) (tokens : List Placed) (c : TokenControl) → Lexes (length (front ++ tail)) (front ++ tail) tokens tail
+    → IsTrue (begins_apart tail) → tokens_followed (at_entry false) (map token_of tokens) ≡ Some c → GoesOn c tail → ¬ (IsDerived (front ++ tail))
+    → IsNowhereDeep (front ++ tail) → IsFaultOf (front ++ tail) (Ended (length (front ++ tail)))
+
+-- the tokens before the place, and the bracket or the prefix operator at it, follow one another, and they nest it in 64 others
+pub record OpensTooDeep (bytes : List ℕ) (place : ℕ) : Type 0 where
+  pub tokens : List Placed
+  pub token : Token
+  pub rest : List ℕ
+  pub control : TokenControl
+  pub within : place < length bytes
+  pub before : Lexes (length bytes) bytes tokens (drop place bytes)
+  pub here : first (drop place bytes) ≡ Single token rest
+  pub opening : IsTrue (is_opening token)
+  pub follow : tokens_followed (at_entry false) (map token_of tokens ++ token ∷ []) ≡ Some control
+  pub nested : NESTING_LIMIT ≤ token_height (height_after height_start (map token_of tokens)) token
+
+-- a place is too deep exactly where the tokens before it and at it tell so
+abbrev pub DeepPlacesAreTold : Type 0
+DeepPlacesAreTold = (bytes : List ℕ) (place : ℕ) → (IsTooDeep bytes place → OpensTooDeep bytes place) × (OpensTooDeep bytes place → IsTooDeep bytes place)

@@ -1,0 +1,9 @@
+//! Where bytes stop to begin a file of opam: laws over the definitions of the faults.
+#![tactic(auto)]
+
+mod laws;
+
+pub use laws::{
+    beginnings_are_told, deep_places_are_told, ended_inside_is_told, rows_are_told, stray_is_told,
+    stray_tokens_are_told, tails_are_told,
+};
