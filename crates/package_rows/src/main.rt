@@ -7,6 +7,7 @@ mod filter_show;
 mod filters;
 mod installs;
 mod jobs;
+mod lints;
 mod locks;
 mod package_show;
 mod packages;
@@ -81,6 +82,9 @@ fn answer(alloc: Global, line: &[u8], world: &mut World) -> Result<Option<String
         return Ok(Some(text));
     }
     if let Some(text) = repository::answer(alloc, call, &mut world.devices, &world.vars)? {
+        return Ok(Some(text));
+    }
+    if let Some(text) = lints::answer(alloc, call)? {
         return Ok(Some(text));
     }
     if let Some(text) = locks::answer(alloc, call, &world.vars)? {

@@ -1,0 +1,4 @@
+mod EmptyLists
+mod LintedTexts
+mod SoundFiles
+mod Told
