@@ -101,11 +101,11 @@ stop_is bytes front rest stop e (k, f) h l =
     f ∙ ap (λ n. drop n bytes) c ∙ ap (drop (length front)) e ∙ drop-append_seam front rest
 
 -- the front of tokens that follow one another
-record Leads (kinds : List Token) : Type 0 where
-  control : Control
-  leads : followed (at_entry false) kinds ≡ Some control
+pub record Leads (kinds : List Token) : Type 0 where
+  pub control : Control
+  pub leads : followed (at_entry false) kinds ≡ Some control
 
-front_leads : (kinds more : List Token) (d : Control) → followed (at_entry false) (kinds ++ more) ≡ Some d → Leads kinds
+pub front_leads : (kinds more : List Token) (d : Control) → followed (at_entry false) (kinds ++ more) ≡ Some d → Leads kinds
 front_leads kinds more d e = some_if (followed (at_entry false) kinds) refl (sym (followed_append (Some (at_entry false)) kinds more) ∙ e)
   where
     none_leads : (more : List Token) → followed_from None more ≡ Some d → ⊥
@@ -116,7 +116,7 @@ front_leads kinds more d e = some_if (followed (at_entry false) kinds) refl (sym
     some_if None h e = absurd (none_leads more (ap (λ z. followed_from z more) (sym h) ∙ e))
     some_if (Some c) h e = record { control = c; leads = h }
 
-kinds_put : (pre : List Placed) (token : Placed) (post : List Placed)
+pub kinds_put : (pre : List Placed) (token : Placed) (post : List Placed)
     → map token_of (pre ++ token ∷ post) ≡ (map token_of pre ++ token_of token ∷ []) ++ map token_of post
 kinds_put [] token post = refl
 kinds_put (t ∷ pre) token post = ap (λ z. token_of t ∷ z) (kinds_put pre token post)

@@ -10,3 +10,8 @@ pub mod Relexed
 pub mod Begun
 pub mod DeepPlaces
 pub mod Worked
+pub mod Sinking
+pub mod Levels
+pub mod Deciding
+pub mod DeepDecided
+pub mod FaultsThere

@@ -1,14 +1,17 @@
 -- Laws of bytes that begin a file, and of the places of faults.
-use Rattle.std.specs.Prelude.{◌≡◌, ℕ, ◌<◌, ◌≤◌, List, [], ◌∷◌, ◌++◌, length, drop, map, false, IsTrue}
+use Rattle.std.specs.Prelude.{◌≡◌, ◌≢◌, ◌⊎◌, ℕ, ◌<◌, ◌≤◌, List, [], ◌∷◌, ◌++◌, length, drop, map, false, IsTrue}
 use Rattle.std.specs.declared.option.Option.TheVariants.{None, Some}
-use Rattle.opam_syntax.specs.declared.fault.SyntaxFault.TheVariants.{Ended, Stray}
+use Rattle.opam_syntax.specs.declared.fault.SyntaxFault.{SyntaxFault}
+use Rattle.opam_syntax.specs.declared.fault.SyntaxFault.TheVariants.{Ended, Stray, Memory}
 use Rattle.opam_syntax.specs.declared.limits.TheConstants.{NESTING_LIMIT}
 use Rattle.opam_syntax.specs.declared.token.Token.{Token}
 use Rattle.opam_syntax.specs.Faults.{is_opening, IsDerived, BeginsFile, IsTooDeep, IsNowhereDeep, IsFaultOf}
+use Rattle.opam_syntax.specs.Files.{Entry}
 use Rattle.opam_syntax.specs.Following.{TokenControl, at_entry, tokens_followed, token_of}
 use Rattle.opam_syntax.specs.Heights.{height_start, height_after, token_height}
 use Rattle.opam_syntax.specs.Lexes.{Lexes}
 use Rattle.opam_syntax.specs.Tokens.{Placed, first, Single}
+use Rattle.opam_syntax.specs.Trees.{IsSpelling}
 use Rattle.syntax_faults.specs.Endings.{GoesOn, begins_apart}
 
 -- bytes begin a file exactly where one of the endings makes of them tokens that may follow one another
@@ -56,3 +59,11 @@ pub record OpensTooDeep (bytes : List ℕ) (place : ℕ) : Type 0 where
 -- a place is too deep exactly where the tokens before it and at it tell so
 abbrev pub DeepPlacesAreTold : Type 0
 DeepPlacesAreTold = (bytes : List ℕ) (place : ℕ) → (IsTooDeep bytes place → OpensTooDeep bytes place) × (OpensTooDeep bytes place → IsTooDeep bytes place)
+
+-- all bytes either spell the items of a file or have a fault that is no want of memory
+abbrev pub FaultsAreThere : Type 0
+FaultsAreThere = (bytes : List ℕ) → ((entries : List Entry) × IsSpelling bytes entries) ⊎ ((fault : SyntaxFault) × (fault ≢ Memory) × IsFaultOf bytes fault)
+
+-- bytes that spell the items of a file have no fault but want of memory
+abbrev pub SpellingsAreFaultless : Type 0
+SpellingsAreFaultless = (bytes : List ℕ) (entries : List Entry) (fault : SyntaxFault) → IsSpelling bytes entries → IsFaultOf bytes fault → fault ≡ Memory

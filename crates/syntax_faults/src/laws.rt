@@ -1,6 +1,6 @@
 // Laws of bytes that begin a file, and of the places of faults.
 ghost use Rattle.syntax_faults.specs.Rows.{RowsAreTold};
-ghost use Rattle.syntax_faults.specs.Laws.{BeginningsAreTold, DeepPlacesAreTold, EndedInsideIsTold, StrayIsTold, StrayTokensAreTold, TailsAreTold};
+ghost use Rattle.syntax_faults.specs.Laws.{BeginningsAreTold, DeepPlacesAreTold, EndedInsideIsTold, FaultsAreThere, SpellingsAreFaultless, StrayIsTold, StrayTokensAreTold, TailsAreTold};
 
 /// Bytes begin a file exactly where one of a few endings makes of them tokens that may follow one another.
 pub fn beginnings_are_told()
@@ -31,6 +31,16 @@ pub fn ended_inside_is_told()
 /// others.
 pub fn deep_places_are_told()
     ensures { DeepPlacesAreTold }
+{}
+
+/// All bytes either spell the items of a file, or have a fault that is no want of memory.
+pub fn faults_are_there()
+    ensures { FaultsAreThere }
+{}
+
+/// Bytes that spell the items of a file have no fault but want of memory.
+pub fn spellings_are_faultless()
+    ensures { SpellingsAreFaultless }
 {}
 
 /// Short texts that stop to begin a file inside a token, or end inside one, each with its place.

@@ -4,6 +4,6 @@
 mod laws;
 
 pub use laws::{
-    beginnings_are_told, deep_places_are_told, ended_inside_is_told, rows_are_told, stray_is_told,
-    stray_tokens_are_told, tails_are_told,
+    beginnings_are_told, deep_places_are_told, ended_inside_is_told, faults_are_there,
+    rows_are_told, spellings_are_faultless, stray_is_told, stray_tokens_are_told, tails_are_told,
 };
