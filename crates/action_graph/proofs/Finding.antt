@@ -1,10 +1,10 @@
 -- What is marked stands once among what was found.
 use Rattle.std.proofs.Common.{◌≡◌, ℕ, zero, suc, ◌+◌, ◌<◌, ◌≤◌, ◌⊎◌, inl, inr, Bool, true, false, cond, List, [], ◌∷◌, ◌++◌, length, get_or, set, take, replicate, sym, ap, refl, ◌∙◌, arith, subst}
-use Rattle.std.proofs.lemmas.List.{get_or_append_left, get_or_push, length_push, length-append, length-set, get_or-set_same, get_or-set_other, set-get_or, get_or_default, get_or_past, get_or-replicate, length-replicate, take_more}
+use Rattle.std.proofs.lemmas.List.{get_or_append_left, get_or_push, length_push, length-set, get_or-set_same, get_or-set_other, set-get_or, get_or_past, get_or-replicate, length-replicate, take_more}
 use Rattle.std.proofs.lemmas.Bool.{cases_lt, cases_eq, cases_Bool, true≢false}
 use Rattle.action_graph.specs.Places.{IsIn}
 use Rattle.action_graph.specs.Found.{Adds, Coheres, IsPut, count_marked, marked}
-use Rattle.action_graph.proofs.Membership.{in_last, in_left, in_push}
+use Rattle.action_graph.proofs.Membership.{in_last, in_left}
 
 pub count_below : (marks : List Bool) → count_marked marks ≤ length marks
 count_below [] = omega arith

@@ -6,3 +6,7 @@ pub mod Orders
 pub mod Placing
 pub mod Stopping
 pub mod OrderLaws
+pub mod Lookups
+pub mod Leading
+pub mod Affecting
+pub mod Planning

@@ -1,8 +1,8 @@
 -- An order is one, and each need stands before its user.
-use Rattle.std.proofs.Common.{◌≡◌, ◌≢◌, ℕ, zero, suc, ◌+◌, ◌<◌, ◌≤◌, Bool, true, List, [], ◌∷◌, ◌++◌, length, get_or, take, sym, ap, refl, ◌∙◌, arith, subst, append_assoc}
+use Rattle.std.proofs.Common.{◌≡◌, ℕ, zero, suc, ◌<◌, List, [], ◌∷◌, ◌++◌, length, get_or, take, sym, ap, refl, ◌∙◌, arith, subst, append_assoc}
 use Rattle.std.proofs.lemmas.List.{append-nil, get_or-take, length-take-le}
 use Rattle.action_graph.specs.Places.{IsIn}
-use Rattle.action_graph.specs.Reach.{Reached, started, stepped}
+use Rattle.action_graph.specs.Reach.{started, stepped}
 use Rattle.action_graph.specs.Order.{CanBeNext, GoesOn, IsNext, IsOrder, Stops}
 use Rattle.action_graph.specs.GraphLaws.{NeedsComeFirst, OneOrder, OrdersKeepNeeds, HoldsOf, ReachedIsLeast}
 

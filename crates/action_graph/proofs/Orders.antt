@@ -1,13 +1,13 @@
 -- Members are listed, each after its needs, the least first.
-use Rattle.std.proofs.Common.{◌≡◌, ◌≢◌, ℕ, ◌+◌, ◌<◌, ◌≤◌, ◌⊎◌, inl, inr, Bool, true, false, cond, List, [], ◌∷◌, ◌++◌, length, get_or, set, take, replicate, sym, ap, refl, ◌∙◌, arith, subst, append_assoc}
-use Rattle.std.proofs.lemmas.List.{append-nil, take_more, length-set, length_push, get_or-set_same, get_or-set_other, get_or-replicate, length-replicate, get_or_past}
-use Rattle.std.proofs.lemmas.Bool.{cases_eq, cases_lt, cases_Bool, true≢false, false_from_ne_true}
+use Rattle.std.proofs.Common.{◌≡◌, ◌≢◌, ℕ, ◌+◌, ◌<◌, ◌≤◌, inl, inr, Bool, true, false, cond, List, [], ◌∷◌, ◌++◌, length, get_or, set, take, replicate, sym, ap, refl, ◌∙◌, arith, subst, append_assoc}
+use Rattle.std.proofs.lemmas.List.{append-nil, take_more, length-set, length_push, get_or-set_same, get_or-set_other, length-replicate}
+use Rattle.std.proofs.lemmas.Bool.{true≢false, false_from_ne_true}
 use Rattle.std.specs.BTreeSet.{BTreeSet}
 use Rattle.action_graph.specs.Places.{ArePlaces, IsIn}
 use Rattle.action_graph.specs.Found.{Coheres, IsPut, marked}
 use Rattle.action_graph.specs.Order.{CanBeNext, GoesOn, IsNext}
-use Rattle.action_graph.specs.Listing.{IsListed, IsMarked, IsMet, Lists, Looks, MayBeNext, MetBelow, RowsWithin, TakesLeast, Turns, has, row}
-use Rattle.action_graph.proofs.Membership.{in_left, in_or_not, in_push, none_in_nil}
+use Rattle.action_graph.specs.Listing.{IsListed, IsMarked, IsMet, Lists, Looks, MayBeNext, MetBelow, TakesLeast, Turns, has, row}
+use Rattle.action_graph.proofs.Membership.{in_or_not, in_push, none_in_nil}
 use Rattle.action_graph.proofs.Finding.{coheres_below, coheres_first, coheres_put, marked_within, set_kept, set_marked}
 
 -- one more that is next

@@ -6,11 +6,11 @@ use Rattle.opam_names.specs.declared.packages.Pkg.{Pkg}
 use Rattle.std.specs.List.{cons_option, filter_map}
 use Rattle.std.specs.declared.option.Option.{Option}
 use Rattle.std.specs.declared.option.Option.TheVariants.{None, Some}
-use Rattle.std.proofs.lemmas.List.{take_more, length-map}
+use Rattle.std.proofs.lemmas.List.{take_more}
 use Rattle.opam_package.specs.declared.package.Member.{Member}
 use Rattle.opam_package.specs.declared.package.Package.{Package}
 use Rattle.action_graph.specs.Places.{ArePlaces, IsIn, at_places, places_from}
-use Rattle.action_graph.specs.Found.{Marks, marked}
+use Rattle.action_graph.specs.Found.{Marks}
 use Rattle.action_graph.specs.Reach.{Reached}
 use Rattle.action_graph.specs.Views.{IsViewed, IsView}
 use Rattle.action_graph.specs.Links.{edge_places, edges_at, need_places, needs_at, member_needs, member_pkgs}

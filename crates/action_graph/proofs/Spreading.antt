@@ -1,11 +1,11 @@
 -- A least set is found place by place.
-use Rattle.std.proofs.Common.{◌≡◌, ℕ, ◌+◌, ◌<◌, ◌≤◌, ◌⊎◌, inl, inr, Bool, true, List, [], length, get_or, replicate, false, sym, ap, refl, ◌∙◌, arith, subst}
+use Rattle.std.proofs.Common.{◌≡◌, ℕ, ◌+◌, ◌<◌, ◌≤◌, inl, inr, Bool, true, List, [], length, get_or, replicate, false, sym, ap, ◌∙◌, arith, subst}
 use Rattle.std.proofs.lemmas.Bool.{cases_lt}
 use Rattle.std.proofs.lemmas.List.{length-replicate}
 use Rattle.action_graph.specs.Places.{IsIn}
 use Rattle.action_graph.specs.Reach.{Reached, started, stepped}
-use Rattle.action_graph.specs.Found.{Adds, Coheres, Marks, Spreads, marked}
-use Rattle.action_graph.proofs.Finding.{coheres_below, coheres_none}
+use Rattle.action_graph.specs.Found.{Adds, Marks, Spreads, marked}
+use Rattle.action_graph.proofs.Finding.{coheres_below}
 
 pub spreads_first : (count : ℕ) (leads : ℕ → List ℕ) (starts : List ℕ) (marks : List Bool) (places : List ℕ)
     → Adds (replicate count false) [] starts marks places → Spreads count leads starts 0 marks places

@@ -1,18 +1,16 @@
 -- An order has all that are wanted, or stops.
-use Rattle.std.proofs.Common.{◌≡◌, ◌≢◌, ℕ, zero, suc, ◌+◌, ◌<◌, ◌≤◌, ◌⊎◌, ◌&&◌, not, inl, inr, Bool, true, false, List, [], ◌∷◌, ◌++◌, length, get_or, map, sym, ap, refl, ◌∙◌, arith, subst}
+use Rattle.std.proofs.Common.{◌≡◌, ℕ, zero, suc, ◌+◌, ◌<◌, ◌&&◌, not, inl, inr, Bool, true, false, List, [], ◌∷◌, ◌++◌, length, map, sym, ap, refl, ◌∙◌, arith, subst}
 use Rattle.std.specs.Prelude.{◌↔◌, slice_get, IsTrue, IfOk, IfErr, Result, Ok, Err}
 use Rattle.action_graph.specs.declared.plan.PlanFault.{PlanFault}
 use Rattle.action_graph.specs.declared.plan.PlanFault.TheVariants.{Cycle, Memory}
-use Rattle.std.specs.declared.option.Option.{Option}
-use Rattle.std.specs.declared.option.Option.TheVariants.{None, Some}
 use Rattle.std.proofs.lemmas.List.{length-map, length_push, get_or_append_left, get_or_push}
-use Rattle.std.proofs.lemmas.Bool.{cases_eq, cases_lt, cases_Bool, true≢false, and_parts, not-true, false_from_ne_true}
+use Rattle.std.proofs.lemmas.Bool.{cases_lt, cases_Bool, true≢false, and_parts, not-true, false_from_ne_true}
 use Rattle.opam_package.specs.declared.package.Member.{Member}
 use Rattle.action_graph.specs.declared.plan.Step.{Step}
-use Rattle.action_graph.specs.Places.{ArePlaces, IsIn, at_places, places_from}
+use Rattle.action_graph.specs.Places.{ArePlaces, IsIn, at_places}
 use Rattle.action_graph.specs.Found.{Coheres, IsLeft, marked}
 use Rattle.action_graph.specs.Links.{member_names, need_places, needs_at, member_needs}
-use Rattle.action_graph.specs.Order.{CanBeNext, GoesOn, IsNext, IsOrder, Stops}
+use Rattle.action_graph.specs.Order.{CanBeNext, GoesOn, IsOrder, Stops}
 use Rattle.action_graph.specs.Plans.{AreSteps, IsNamed, IsStopOf, bears_name, step_of}
 use Rattle.action_graph.specs.Listing.{IsListed, IsMarked, RowsWithin, named_marks, need_rows, row, step_in}
 use Rattle.action_graph.proofs.Finding.{marked_within}

@@ -1,5 +1,5 @@
 -- Rows of places, and for each place those in whose rows it stands.
-use Rattle.std.proofs.Common.{◌≡◌, ◌≢◌, ℕ, ◌+◌, ◌<◌, ◌≤◌, ◌⊎◌, inl, inr, List, [], ◌∷◌, ◌++◌, length, get_or, set, map, take, replicate, sym, ap, refl, ◌∙◌, arith, subst}
+use Rattle.std.proofs.Common.{◌≡◌, ℕ, ◌+◌, ◌<◌, ◌≤◌, ◌⊎◌, inl, inr, List, [], ◌∷◌, ◌++◌, length, get_or, set, map, take, replicate, sym, ap, refl, ◌∙◌, arith, subst}
 use Rattle.std.proofs.lemmas.List.{get_or-set_same, get_or-set_other, get_or-map, map-set, length-set, length-map, take_more, get_or-replicate, get_or_past, length-replicate}
 use Rattle.std.proofs.lemmas.Bool.{cases_eq, cases_lt}
 use Rattle.action_graph.specs.Places.{IsIn}
@@ -32,7 +32,7 @@ one_added : (now : List (List ℕ)) (at place : ℕ) → at < length now → IsI
 one_added now at place within =
     let P : List ℕ → Type 0 = λ r. IsIn r place in subst P (sym (get_or-set_same now at (row now at ++ place ∷ []) [] within)) (in_last (row now at) place)
 
-one_only : (now : List (List ℕ)) (at place other x : ℕ) → at < length now → IsIn (row (set now at (row now at ++ place ∷ [])) other) x → IsIn (row now other) x ⊎ (x ≡ place)
+one_only : (now : List (List ℕ)) (at place other x : ℕ) → at < length now → IsIn (row (set now at (row now at ++ place ∷ [])) other) x → IsIn (row now other) x ⊎ ((x ≡ place) × (other ≡ at))
 one_only now at place other x within is = elim (cases_eq other at) [
   | inl same ↦
       (let P : List ℕ → Type 0 = λ r. IsIn r x in
@@ -40,7 +40,7 @@ one_only now at place other x within is = elim (cases_eq other at) [
       let R : ℕ → Type 0 = λ o. IsIn (row now o) x in
       elim (in_push (row now at) place x (subst P (get_or-set_same now at (row now at ++ place ∷ []) [] within) (subst Q same is))) [
         | inl before ↦ inl (subst R (sym same) before)
-        | inr new ↦ inr (sym new)
+        | inr new ↦ inr (sym new, same)
       ])
   | inr apart ↦ (let P : List ℕ → Type 0 = λ r. IsIn r x in inl (subst P (get_or-set_other now at other (row now at ++ place ∷ []) [] apart) is))
 ]
@@ -63,8 +63,8 @@ adds_to_one before now done at place adds below = let within : at < length now =
     | inr same ↦ (let P : ℕ → Type 0 = λ o. IsIn (row (set now at (row now at ++ place ∷ [])) o) place in subst P same (one_added now at place within))
   ];
   only = λ p x is. elim (one_only now at place p x within is) [
-    | inl was ↦ adds.only p x was
-    | inr new ↦ inr new
+    | inl was ↦ elim (adds.only p x was) [ inl earlier ↦ inl earlier | inr new ↦ inr (new.0, in_left done (at ∷ []) p new.1) ]
+    | inr new ↦ inr (new.0, (let P : ℕ → Type 0 = IsIn (done ++ at ∷ []) in subst P (sym new.1) (in_last done at)))
   ];
 }
 
@@ -104,7 +104,7 @@ turns_next rows others next added from turns below is adds = record {
   ];
   within = λ at x in_it. elim (adds.only at x in_it) [
     | inl was ↦ turns.within at x was
-    | inr new ↦ omega (arith, new, below)
+    | inr new ↦ omega (arith, new.0, below)
   ];
 }
 

@@ -1,5 +1,5 @@
 -- Proof words alone: what has been found of a least set.
-use Rattle.std.specs.Prelude.{◌≡◌, ◌↔◌, ℕ, ◌+◌, ◌<◌, ◌≤◌, Bool, true, false, not, ◌&&◌, cond, List, [], ◌∷◌, ◌++◌, length, slice_index, slice_set, EachIndex}
+use Rattle.std.specs.Prelude.{◌≡◌, ◌↔◌, ℕ, ◌+◌, ◌<◌, ◌≤◌, Bool, true, false, not, ◌&&◌, cond, List, [], ◌∷◌, ◌++◌, length, slice_index, slice_set}
 use Rattle.std.specs.List.{slice_index_or}
 use Rattle.action_graph.specs.Places.{IsIn}
 use Rattle.action_graph.specs.Reach.{Reached}

@@ -3,7 +3,9 @@ pub mod Reach
 pub mod Links
 pub mod Views
 pub mod Order
+pub mod Leaving
 pub mod Plans
 pub mod Found
 pub mod Listing
+pub mod Nodes
 pub mod GraphLaws

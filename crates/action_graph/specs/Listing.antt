@@ -1,11 +1,12 @@
 -- Proof words alone: members while they are listed.
-use Rattle.std.specs.Prelude.{◌≡◌, ◌≢◌, ◌⊎◌, ◌↔◌, ℕ, ◌+◌, ◌<◌, ◌≤◌, Bool, true, false, List, [], length, map, slice_index, MatchOption}
+use Rattle.std.specs.Prelude.{◌≡◌, ◌≢◌, ◌⊎◌, ℕ, ◌<◌, ◌≤◌, Bool, true, false, List, [], length, map, slice_index, MatchOption}
 use Rattle.std.specs.List.{slice_index_or}
 use Rattle.std.specs.Ordering.{nat_cmp}
 use Rattle.std.specs.BTreeSet.{BTreeSet, contains}
 use Rattle.action_graph.specs.Places.{IsIn}
 use Rattle.action_graph.specs.Order.{GoesOn}
 use Rattle.opam_package.specs.declared.package.Member.{Member}
+use Rattle.std.specs.declared.option.Option.{Option}
 use Rattle.std.specs.declared.option.Option.TheVariants.{Some}
 use Rattle.action_graph.specs.declared.plan.Step.{Step}
 use Rattle.action_graph.specs.Links.{need_places}
@@ -70,6 +71,10 @@ pub record Lists (needs : List (List ℕ)) (wanted listed : List Bool) (order : 
   pub met : MetBelow needs wanted listed cursors
   pub cursors_counted : length cursors ≡ length wanted
 
+-- none is ready, or the least is taken away
+abbrev pub MayTake : BTreeSet ℕ → BTreeSet ℕ → Option ℕ → Type 0
+MayTake before now taken = MatchOption taken ((place : ℕ) → has before place ≡ false) (TakesLeast before now)
+
 -- each row tells for a place those in whose rows it stands
 pub record Turns (rows turned : List (List ℕ)) : Type 0 where
   pub counted : length turned ≡ length rows
@@ -81,7 +86,7 @@ pub record AddsTo (before now : List (List ℕ)) (rows_of : List ℕ) (place : �
   pub counted : length now ≡ length before
   pub kept : (at other : ℕ) → IsIn (row before at) other → IsIn (row now at) other
   pub added : (at : ℕ) → IsIn rows_of at → IsIn (row now at) place
-  pub only : (at other : ℕ) → IsIn (row now at) other → IsIn (row before at) other ⊎ (other ≡ place)
+  pub only : (at other : ℕ) → IsIn (row now at) other → IsIn (row before at) other ⊎ ((other ≡ place) × IsIn rows_of at)
 
 -- the first rows are done
 pub record TurnsBelow (done : ℕ) (rows turned : List (List ℕ)) : Type 0 where

@@ -1,6 +1,6 @@
 -- The order in which members are installed. This project's own. Members stand in the byte order of their names, so of several
 -- members the one at the least place has the least name.
-use Rattle.std.specs.Prelude.{◌≡◌, ◌≢◌, ℕ, ◌≤◌, List, [], ◌∷◌, ◌++◌}
+use Rattle.std.specs.Prelude.{◌≢◌, ℕ, ◌≤◌, List, [], ◌∷◌, ◌++◌}
 use Rattle.action_graph.specs.Places.{ArePlaces, IsIn}
 
 -- a member that is wanted can be next where it is not listed yet and each of its needs that is wanted is listed

@@ -1,5 +1,4 @@
 -- Least sets. This project's own.
-use Rattle.std.specs.Prelude.{ℕ}
 
 -- what is in the least set that has all starts, and with each of its elements whatever a step leads to from there
 pub data Reached {X : Type 0} (start : X → Type 0) (step : X → X → Type 0) : X → Type 0 where

@@ -5,7 +5,7 @@ ghost use Rattle.action_graph.specs.Links.{member_names};
 ghost use Rattle.action_graph.specs.Found.{IsLeft};
 ghost use Rattle.action_graph.specs.Listing.{IsMarked, named_marks, need_rows, step_in};
 ghost use Rattle.action_graph.specs.Places.{at_places};
-ghost use Rattle.action_graph.specs.Plans.{AreSteps, IsNamed, IsStopOf};
+ghost use Rattle.action_graph.specs.Plans.{AreNamedSteps, AreSteps, IsNamedStop, IsStopOf};
 
 use crate::links::need_places;
 use crate::listing::{list_in_order, marked_places};
@@ -104,8 +104,8 @@ fn marks_of(alloc: Global, members: &[Member], names: &[Name]) -> Result<Items<b
 pub fn order(alloc: Global, target: &Target, names: &[Name]) -> Result<Items<Step>, PlanFault>
     requires small { length target.now.members < 2 ^ 32 }
     requires names { NeverFallsBy (λ name. name) names.now }
-    ensures ok { IfOk result (AreSteps target.now.members (IsNamed names.now target.now.members)) }
-    ensures err { IfErr result (IsStopOf target.now.members (IsNamed names.now target.now.members)) }
+    ensures ok { IfOk result (AreNamedSteps target.now names.now) }
+    ensures err { IfErr result (IsNamedStop target.now names.now) }
 {
     let members = target.members.as_slice();
     let wanted = marks_of(alloc, members, names)?;

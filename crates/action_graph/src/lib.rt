@@ -1,12 +1,15 @@
 //! In which order packages are installed, and what the build of each sees of the others.
 #![tactic(auto)]
 
+mod affected;
 mod installs;
 mod laws;
 mod links;
 mod listing;
+mod lookup;
 mod marks;
 mod plan;
+mod plans;
 mod reach;
 mod ready;
 mod rows;
@@ -15,5 +18,6 @@ mod views;
 pub use installs::order;
 pub use laws::{needs_come_first, order_is_one, reached_is_least};
 pub use package_vars::View;
-pub use plan::{PlanFault, Step};
+pub use plan::{Plan, PlanFault, Step};
+pub use plans::plan_of;
 pub use views::view_of;

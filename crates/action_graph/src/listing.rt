@@ -1,7 +1,7 @@
 // Members in the order in which they are installed.
-ghost use Rattle.std.specs.Prelude.{◌≡◌, ◌≢◌, ℕ, ◌+◌, ◌<◌, ◌≤◌, ◌^◌, [], ◌∷◌, false, length, replicate, slice_index, IfOk, OnOk, EachIndex};
+ghost use Rattle.std.specs.Prelude.{◌≡◌, ◌≢◌, ℕ, ◌+◌, ◌<◌, ◌≤◌, ◌^◌, [], ◌∷◌, false, length, replicate, slice_index, IfOk, OnOk};
 ghost use Rattle.action_graph.specs.Found.{marked};
-ghost use Rattle.action_graph.specs.Places.{ArePlaces};
+ghost use Rattle.action_graph.specs.Places.{AreBelow, ArePlaces};
 ghost use Rattle.action_graph.specs.Listing.{IsListed, IsMarked, IsMet, Looks, MetBelow, RowsWithin, has};
 
 use crate::marks::{Found, none_found};
@@ -13,12 +13,14 @@ use std::collections::BTreeSet;
 
 // The first of the needs from one on that is wanted and not listed, or the end.
 fn first_open(needs: &[u32], wanted: &[bool], listed: &[bool], from: usize) -> usize
-    requires within { EachIndex needs.now (λ i. slice_index needs.now i < length wanted.now) }
+    requires within { AreBelow needs.now (length wanted.now) }
     requires counted { length listed.now ≡ length wanted.now }
     ensures met { (k : ℕ) → from ≤ k → k < result → k < length needs.now
         → IsMet wanted.now listed.now (slice_index needs.now k) }
-    ensures wanted { result < length needs.now → IsMarked wanted.now (slice_index needs.now result) }
-    ensures open { result < length needs.now → marked listed.now (slice_index needs.now result) ≡ false }
+    ensures wanted { result < length needs.now
+        → IsMarked wanted.now (slice_index needs.now result) }
+    ensures open { result < length needs.now
+        → marked listed.now (slice_index needs.now result) ≡ false }
 {
     let mut at = from;
     while at < needs.len() {
@@ -93,7 +95,7 @@ impl Waiting {
         requires within { RowsWithin needs.now (length wanted.now) }
         requires counted { length listed.now ≡ length wanted.now }
         requires cursors { length self.old.cursors ≡ length wanted.now }
-        requires places { EachIndex places.now (λ i. slice_index places.now i < length wanted.now) }
+        requires places { AreBelow places.now (length wanted.now) }
         requires met { MetBelow needs.now wanted.now listed.now self.old.cursors }
         ensures { OnOk result (Looks needs.now wanted.now listed.now
             self.old.ready self.new.ready places.now self.new.cursors) }

@@ -1,6 +1,7 @@
 // Places that are found one after another, each once.
 ghost use Rattle.std.specs.Prelude.{◌≡◌, ℕ, ◌<◌, ◌≤◌, ◌^◌, [], false, length, replicate, slice_index, IfOk, OnOk, EachIndex};
 ghost use Rattle.action_graph.specs.Found.{Adds, Coheres, IsPut, marked};
+ghost use Rattle.action_graph.specs.Places.{AreBelow};
 
 use opam_names::{Items, OutOfMemory};
 use std::alloc::Global;
@@ -56,7 +57,7 @@ impl Found {
 
     // Those that were not found are added at the end.
     pub(crate) fn add(&mut self, places: &[u32]) -> Result<(), OutOfMemory>
-        requires within { EachIndex places.now (λ i. slice_index places.now i < length self.old.marks) }
+        requires within { AreBelow places.now (length self.old.marks) }
         requires coheres { Coheres self.old.marks self.old.places }
         ensures { OnOk result (Adds self.old.marks self.old.places places.now
             self.new.marks self.new.places) }

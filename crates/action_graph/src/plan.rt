@@ -1,4 +1,4 @@
-// Installs, and why there is no order of them.
+// What a change does, and why there is no order of its installs.
 ghost use Rattle.std.specs.Prelude.{◌≡◌};
 
 use opam_names::{Items, Name, OutOfMemory};
@@ -8,6 +8,16 @@ use opam_names::{Items, Name, OutOfMemory};
 pub struct Step {
     pub member: u32,
     pub needs: Items<u32>,
+}
+
+/// What a change of a switch does: first the removals, then the installs.
+#[derive(Drop)]
+pub struct Plan {
+    /// The places of entries that leave, in the order in which they do.
+    pub removals: Items<u32>,
+    pub installs: Items<Step>,
+    /// The places of members of the target that are neither installed nor among the installs.
+    pub missing: Items<u32>,
 }
 
 /// Why there is no plan.

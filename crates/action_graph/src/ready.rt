@@ -1,6 +1,6 @@
 // Places that can be next, of which the least is taken.
-ghost use Rattle.std.specs.Prelude.{◌≡◌, ℕ, false, OnOk, MatchOption};
-ghost use Rattle.action_graph.specs.Listing.{PutsReady, TakesLeast, has};
+ghost use Rattle.std.specs.Prelude.{OnOk};
+ghost use Rattle.action_graph.specs.Listing.{MayTake, PutsReady};
 
 use opam_names::OutOfMemory;
 use std::collections::BTreeSet;
@@ -15,7 +15,7 @@ pub(crate) fn put_ready(ready: &mut BTreeSet<u32>, place: u32) -> Result<(), Out
 }
 
 pub(crate) fn take_ready(ready: &mut BTreeSet<u32>) -> Option<u32>
-    ensures { MatchOption result ((place : ℕ) → has ready.old place ≡ false) (TakesLeast ready.old ready.new) }
+    ensures { MayTake ready.old ready.new result }
 {
     ready.pop_first()
 }

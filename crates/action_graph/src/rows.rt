@@ -53,13 +53,14 @@ impl Rows {
 
     fn add(&mut self, at: usize, place: u32) -> Result<(), OutOfMemory>
         requires { at < length self.old }
-        ensures { OnOk result (self.new ≡ slice_set self.old at (row self.old at ++ place ∷ [])) }
+        ensures { OnOk result
+            (self.new ≡ slice_set self.old at (row self.old at ++ place ∷ [])) }
     {
         self.inner[at].push(place)?;
         Ok(())
     }
 
-    fn add_to(&mut self, rows_of: &[u32], place: u32) -> Result<(), OutOfMemory>
+    pub(crate) fn add_to(&mut self, rows_of: &[u32], place: u32) -> Result<(), OutOfMemory>
         requires { EachIndex rows_of.now (λ i. slice_index rows_of.now i < length self.old) }
         ensures { OnOk result (AddsTo self.old self.new rows_of.now place) }
     {
@@ -70,7 +71,7 @@ impl Rows {
     }
 }
 
-fn empty_rows(alloc: Global, count: usize) -> Result<Rows, OutOfMemory>
+pub(crate) fn empty_rows(alloc: Global, count: usize) -> Result<Rows, OutOfMemory>
     ensures { IfOk result (λ rows. rows ≡ replicate count []) }
 {
     let mut rows = Rows::none(alloc);

@@ -1,4 +1,4 @@
-use Rattle.std.proofs.Common.{rules, ◌≡◌, ℕ, ◌<◌, length, arith, ◌∙◌, ap, sym}
+use Rattle.std.proofs.Common.{◌∙◌, ap, sym}
 use Rattle.action_graph.proofs.Placing.{pushed_at}
 use Rattle.opam_package.specs.declared.package.Member.{Member}
 use Rattle.action_graph.proofs.installs.names_at.Goals as goal

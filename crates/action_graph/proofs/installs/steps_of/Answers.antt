@@ -1,6 +1,6 @@
-use Rattle.std.proofs.Common.{rules, ◌≡◌, ℕ, ◌<◌, length, get_or, List, Bool, true, false, arith, ◌∙◌, sym, ap, subst}
+use Rattle.std.proofs.Common.{rules, ◌≡◌, ℕ, ◌<◌, length, get_or, List, true, false, arith, sym, ap, subst}
 use Rattle.std.proofs.lemmas.Bool.{not-true, not-false}
-use Rattle.action_graph.proofs.Finding.{coheres_below, marked_within}
+use Rattle.action_graph.proofs.Finding.{marked_within}
 use Rattle.action_graph.proofs.Placing.{marked_fit}
 use Rattle.action_graph.proofs.Stopping.{need_rows_length, none_by, rows_fit, some_by, steps_given, stops_given}
 use Rattle.action_graph.proofs.installs.steps_of.Goals as goal

@@ -1,8 +1,8 @@
-use Rattle.std.proofs.Common.{rules, ◌≡◌, ◌<◌, ◌≤◌, ◌+◌, ◌-◌, ℕ, arith, length, List, Bool, sym, ap, ◌∙◌, refl, subst, replicate, false, get_or}
+use Rattle.std.proofs.Common.{ℕ, arith, length, List, refl, subst, get_or}
 use Rattle.action_graph.specs.Places.{IsIn}
 use Rattle.action_graph.proofs.Turning.{row_within}
 use Rattle.action_graph.proofs.Finding.{marked_within}
-use Rattle.action_graph.proofs.Orders.{lists_begin, lists_end, lists_on, lists_shorter, taken_within}
+use Rattle.action_graph.proofs.Orders.{lists_begin, lists_on, lists_shorter}
 use Rattle.action_graph.proofs.listing.list_in_order.Goals as goal
 
 pub turned-requires-clause-within : goal.turned-requires-clause-within

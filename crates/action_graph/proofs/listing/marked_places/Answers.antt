@@ -1,4 +1,4 @@
-use Rattle.std.proofs.Common.{rules, ◌≡◌, ◌<◌, ℕ, arith, sym, ◌∙◌}
+use Rattle.std.proofs.Common.{rules, ◌∙◌}
 use Rattle.action_graph.proofs.Membership.{are_all, are_from, are_pushed, are_skipped}
 use Rattle.action_graph.proofs.listing.marked_places.Goals as goal
 use Rattle.action_graph.proofs.listing.marked_places.Goals.{then-marks-at+in_ok-push, else-marks-at}

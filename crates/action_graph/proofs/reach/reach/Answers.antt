@@ -1,4 +1,4 @@
-use Rattle.std.proofs.Common.{rules, ◌≡◌, ℕ, ◌<◌, ◌≤◌, length, get_or, ◌+◌, ◌-◌, arith, List, [], Bool, refl, sym, ◌∙◌, ap}
+use Rattle.std.proofs.Common.{rules, ℕ, get_or, arith, List, ◌∙◌, ap}
 use Rattle.action_graph.proofs.Finding.{coheres_first}
 use Rattle.action_graph.proofs.Spreading.{spreads_all, spreads_below, spreads_from, spreads_on}
 use Rattle.action_graph.proofs.reach.reach.Goals as goal

@@ -1,4 +1,4 @@
-use Rattle.std.proofs.Common.{rules, ◌≡◌, ◌<◌, ℕ, arith, length, List, [], replicate, ap, sym, ◌∙◌}
+use Rattle.std.proofs.Common.{rules, arith, length, [], replicate, ap, ◌∙◌}
 use Rattle.action_graph.proofs.Turning.{row_within, turns_all, turns_next, turns_none}
 use Rattle.action_graph.proofs.rows.turned.Goals as goal
 

@@ -1,4 +1,3 @@
-use Rattle.std.proofs.Common.{take}
 use Rattle.action_graph.specs.Listing.{TurnsBelow}
 use Rattle.action_graph.proofs.rows.turned.Given as goal
 

@@ -1,4 +1,4 @@
-use Rattle.std.proofs.Common.{rules, ◌≡◌, ℕ, ◌<◌, length, get_or, List, arith, ◌∙◌, sym, ap, subst}
+use Rattle.std.proofs.Common.{ℕ, ◌<◌, length, get_or, List, arith, ◌∙◌, sym, ap, subst}
 use Rattle.opam_package.specs.declared.package.Member.{Member}
 use Rattle.action_graph.specs.Links.{need_places}
 use Rattle.action_graph.proofs.Placing.{marked_fit, needs_fit, view_is}

@@ -1,4 +1,3 @@
-use Rattle.std.proofs.Common.{◌≡◌, ℕ, ◌<◌, length, get_or}
 use Rattle.action_graph.proofs.Finding.{adds_next}
 use Rattle.action_graph.proofs.marks.Found.add.Goals as goal
 

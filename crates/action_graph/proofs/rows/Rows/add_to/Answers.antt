@@ -1,4 +1,3 @@
-use Rattle.std.proofs.Common.{rules, ◌≡◌, ◌<◌, ℕ}
 use Rattle.action_graph.proofs.Turning.{adds_to_next}
 use Rattle.action_graph.proofs.rows.Rows.add_to.Goals as goal
 

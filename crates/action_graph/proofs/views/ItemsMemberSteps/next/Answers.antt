@@ -1,4 +1,4 @@
-use Rattle.std.proofs.Common.{◌≡◌, ◌<◌, ℕ, List, length, get_or, subst}
+use Rattle.std.proofs.Common.{◌<◌, List, length, get_or, subst}
 use Rattle.std.specs.Prelude.{slice_index, EachIndex, IfOk}
 use Rattle.opam_package.specs.declared.package.Member.{Member}
 use Rattle.action_graph.proofs.Placing.{edges_all_fit}
