@@ -3,7 +3,8 @@
 # out where they have none), and the made texts of bench/syntax.sh of 256 KiB and 1 MiB, which is the longest that is linted.
 # What is measured is processor time, user's and system's, as the best of five runs, less what a run that only loads the texts
 # takes. The program is proved and built in a copy, which takes minutes.
-# Aim: at least 0.7 of the reader's speed.
+# Aim: at least 0.7 of the reader's speed. Measured once, on 4 processors beside a dozen provers, which blurs it: 0.75 (256 KiB) and
+# 1.05 (1 MiB) for small fields, which have a finding each, and 0.96 to 1.23 for the others.
 # Usage: bench/lint.sh [FOLDER]
 set -eu
 top=$(cd "$(dirname "$0")/.." && pwd)

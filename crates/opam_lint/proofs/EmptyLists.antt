@@ -13,7 +13,7 @@ use Rattle.opam_lint.specs.declared.finding.Finding.{Finding}
 use Rattle.opam_lint.specs.EmptyCommands.{empties, empty_commands, layer_empties, node_empties, nodes_in, own_empty}
 
 -- a layer, with what is found in its nodes
-abbrev found_of : Value-F Value Node → Value-F (Span → List Finding) (List Finding)
+abbrev pub found_of : Value-F Value Node → Value-F (Span → List Finding) (List Finding)
 found_of = map-Value Value Node (Span → List Finding) (List Finding) (fold-Value (Span → List Finding) (List Finding) layer_empties node_empties) empties
 
 joined : (nodes : List Node) → flat_map (λ found. found) (map empties nodes) ≡ flat_map empties nodes

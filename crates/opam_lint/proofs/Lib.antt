@@ -1,4 +1,6 @@
 mod EmptyLists
+mod EmptyQuiet
 mod LintedTexts
+mod NoErrors
 mod SoundFiles
 mod Told

@@ -23,10 +23,7 @@ use Rattle.opam_lint.specs.Findings.{all_findings, fault_findings, file_findings
 use Rattle.opam_lint.specs.EmptyCommands.{empty_commands}
 use Rattle.opam_lint.specs.FindingTexts.{is_error}
 use Rattle.opam_lint.specs.LintLaws.{IsSound}
-
--- no error is among them
-abbrev Quiet : List Finding → Type 0
-Quiet findings = list_any is_error findings ≡ false
+use Rattle.opam_lint.proofs.EmptyQuiet.{Quiet}
 
 neither : (b c : Bool) → (b || c) ≡ false → (b ≡ false) × (c ≡ false)
 neither true c e = absurd cc
@@ -43,6 +40,11 @@ both_empty (x ∷ xs) ys e = absurd cc
 no_fault : (told : Option PackageFault) → Quiet (fault_findings told) → told ≡ None
 no_fault None quiet = refl
 no_fault (Some fault) quiet = absurd cc
+
+-- and of a format that is missing
+not_missing : (missing : Bool) → Quiet (if missing then finding 4 0 NoFormat ∷ [] else []) → missing ≡ false
+not_missing true quiet = absurd cc
+not_missing false quiet = refl
 
 -- and of an item that is refused
 not_refused : (refused : Bool) (at : ℕ) (more : List Finding) → Quiet ((if refused then finding 5 at Refused ∷ [] else []) ++ more) → refused ≡ false
@@ -64,7 +66,7 @@ accepted_item pkg name (SectionContents fields) at quiet sound =
     without (is_refused name (SectionContents fields)) (first_fault (section_faults name fields)) (ap first_fault sound)
     (not_refused (is_refused_item name (SectionContents fields)) at _ quiet)
 
-abbrev refused_pair : Key × Contents → Bool
+abbrev pub refused_pair : Key × Contents → Bool
 refused_pair item = is_refused item.0.name item.1
 
 accepted_items : (pkg : Pkg) (items : FileItems) (places : List Span) → Quiet (items_findings items places) → file_faults pkg items ≡ []
@@ -76,24 +78,25 @@ accepted_items pkg (item ∷ items) places quiet sound =
     ap (λ b. cond b (item ∷ filter refused_pair items) (filter refused_pair items)) (accepted_item pkg item.0.name item.1 (first_start places) split.0 parts.0)
     ∙ accepted_items pkg items (drop 1 places) split.1 parts.1
 
--- of six lists in a row the first and the third
-first_and_third : (a b c d e f : List Finding) → Quiet (a ++ b ++ c ++ d ++ e ++ f) → Quiet a × Quiet c
-first_and_third a b c d e f quiet =
+-- of six lists in a row the first three
+first_three : (a b c d e f : List Finding) → Quiet (a ++ b ++ c ++ d ++ e ++ f) → (Quiet a × Quiet b) × Quiet c
+first_three a b c d e f quiet =
     let to_e = (both_quiet (a ++ b ++ c ++ d ++ e) f quiet).0 in
     let to_d = (both_quiet (a ++ b ++ c ++ d) e to_e).0 in
     let to_c = both_quiet (a ++ b) c (both_quiet (a ++ b ++ c) d to_d).0 in
-    ((both_quiet a b to_c.0).0, to_c.1)
+    (both_quiet a b to_c.0, to_c.1)
 
 pub sound : TheFirstIsTold → (items : FileItems) (places : List Span) → Quiet (file_findings items places) → IsSound items
 sound first items places quiet =
     let all : Quiet (all_findings items places) =
     list_any-IsPermutation is_error (all_findings items places) (file_findings items places) (order_permutes finding_key (all_findings items places)) ∙ quiet in
     let faults = file_faults (told_package items) items in
-    let parts = first_and_third (fault_findings (first_fault faults)) (missing_findings (codes "opam-version") 4 NoFormat items) (items_findings items places)
+    let parts = first_three (fault_findings (first_fault faults)) (missing_findings (codes "opam-version") 4 NoFormat items) (items_findings items places)
     (missing_findings (codes "synopsis") 22 NoSynopsis items) (missing_findings (codes "maintainer") 23 NoMaintainer items)
     (listed empty_commands (field_of (codes "build") items)) all in
-    let none = (first faults).none (no_fault (first_fault faults) parts.0) in
+    let none = (first faults).none (no_fault (first_fault faults) parts.0.0) in
     record {
       faultless = none;
       accepted = ap (λ kept. fold with_once [] (map (λ (item : Key × Contents). item.0.name) kept)) (accepted_items (told_package items) items places parts.1 none);
+      format = not_missing (is_none (field_of (codes "opam-version") items)) parts.0.1;
     }

@@ -1,5 +1,5 @@
 // Laws, each proved as a clause of a function that does nothing but call upon a law below.
-ghost use Rattle.opam_lint.specs.LintLaws.{FindingsAreDetermined, FindingsAreOrdered, NoErrorIsSound};
+ghost use Rattle.opam_lint.specs.LintLaws.{ErrorsAreExact, FindingsAreDetermined, FindingsAreOrdered};
 
 use opam_package::the_first_is_told;
 use opam_syntax::one_tree_for_bytes;
@@ -16,9 +16,10 @@ pub fn findings_are_determined()
     one_tree_for_bytes();
 }
 
-/// A file in which no error is found has no fault, and its package is refused for none of its items.
-pub fn no_error_is_sound()
-    ensures { NoErrorIsSound }
+/// No error is found just in a file that has no fault, whose package is refused for none of its items, and that says of which
+/// format it is.
+pub fn errors_are_exact()
+    ensures { ErrorsAreExact }
 {
     the_first_is_told();
 }

@@ -13,5 +13,5 @@ mod naming;
 
 pub use finding::{Finding, Problem};
 pub use finding_texts::{fault_text, findings_text};
-pub use laws::{findings_are_determined, findings_are_ordered, no_error_is_sound};
+pub use laws::{errors_are_exact, findings_are_determined, findings_are_ordered};
 pub use linting::lint;
