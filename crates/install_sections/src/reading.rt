@@ -43,7 +43,7 @@ fn excess_fault(file: &File) -> Option<InstallFault>
 
 /// The files that an install file of the package of this name places, in the order of the file (opam manual, package
 /// definitions: `.install` files). Where several things are wrong, the one that begins first is told, and of those that
-/// XX
+/// begin at one byte the one that stands first in the list of all of them.
 pub fn placements_of(
     alloc: Global,
     file: &File,
