@@ -1,0 +1,13 @@
+pub mod Folding
+pub mod Standing
+pub mod Starting
+pub mod Keeping
+pub mod GoingOn
+pub mod Heaps
+pub mod Queuing
+pub mod Indexing
+pub mod Turning
+pub mod Lacking
+pub mod Decided
+pub mod FloorTurns
+pub mod FloorKept
