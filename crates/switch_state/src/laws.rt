@@ -1,0 +1,22 @@
+// Laws of sound states, each the contract of a function that does nothing.
+ghost use Rattle.switch_state.specs.SoundLaws.{EmptyIsSound, InstallsKeepSound, PutBacksKeepSound, RemovalsKeepSound};
+
+/// The empty state is sound, over any files.
+pub fn the_empty_state_is_sound()
+    ensures { EmptyIsSound }
+{}
+
+/// What is installed stays sound with an install that suits it.
+pub fn installs_keep_sound()
+    ensures { InstallsKeepSound }
+{}
+
+/// The same where a package is put back.
+pub fn put_backs_keep_sound()
+    ensures { PutBacksKeepSound }
+{}
+
+/// What is installed stays sound without a package that no other entry needs when it runs.
+pub fn removals_keep_sound()
+    ensures { RemovalsKeepSound }
+{}

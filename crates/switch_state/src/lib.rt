@@ -1,0 +1,18 @@
+//! The state of a switch on a disk: what is installed, whose its paths are, what was asked for and which request is open, over
+//! the journal, each change of them one commit.
+#![tactic(auto)]
+
+mod ending;
+mod laws;
+mod prepared;
+mod preparing;
+mod request;
+mod switch;
+mod taking;
+
+pub use laws::{
+    installs_keep_sound, put_backs_keep_sound, removals_keep_sound, the_empty_state_is_sound,
+};
+pub use prepared::{Change, Prepared, Receipt};
+pub use request::OpenRequest;
+pub use switch::Switch;
