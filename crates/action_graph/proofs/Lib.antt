@@ -10,3 +10,5 @@ pub mod Lookups
 pub mod Leading
 pub mod Affecting
 pub mod Planning
+pub mod Linking
+pub mod PlanLaws

@@ -1,6 +1,6 @@
 -- Where a key stands first in a list.
 use Rattle.std.proofs.Common.{◌≡◌, ℕ, zero, suc, ◌+◌, ◌<◌, Bool, true, false, cond, not, ◌||◌, List, [], ◌∷◌, ◌++◌, length, get_or, map, filter, take, sym, ap, refl, ◌∙◌, arith, subst, lt-ltb, le-ltb}
-use Rattle.std.specs.Prelude.{slice_get, bytes_eq, find, nat_lt, IfSome}
+use Rattle.std.specs.Prelude.{slice_get, bytes_eq, find, nat_lt, IfSome, ◌^◌}
 use Rattle.std.specs.List.{AllByRecursion, IsDistinct, list_any, position, prefix_len}
 use Rattle.std.specs.List.Sorted.{IsStrictlySortedBy}
 use Rattle.std.specs.Ordering.{is_eq}
@@ -13,12 +13,13 @@ use Rattle.std.proofs.lemmas.List.{length-take-le, take_more}
 use Rattle.std.proofs.lemmas.Option.{slice_get-get_or, slice_get_within}
 use Rattle.std.proofs.lemmas.Bool.Decides.{nat_tests}
 use Rattle.std.proofs.lemmas.Map.Text.{is_eq-slice_cmp}
+use Rattle.opam_names.specs.ByteOrderLaws.{NeverFallsBy-from_rises}
 use Rattle.opam_names.specs.ByteOrders.{NeverFallsBy, RisesBy, byte_order, has_key, place_of_key}
 use Rattle.opam_names.proofs.ByteOrders.{equal_bytes, order_stable, order_up, same_bytes}
 use Rattle.opam_package.specs.declared.package.Member.{Member}
 use Rattle.action_graph.specs.declared.lookup.Spot.{Spot}
 use Rattle.action_graph.specs.Leaving.{member_called, name_of}
-use Rattle.action_graph.specs.Nodes.{first_place, spot_name, spots_from, spots_in}
+use Rattle.action_graph.specs.Nodes.{AreInOrder, first_place, spot_name, spots_from, spots_in}
 
 one_more : (n m : ℕ) → nat_lt (1 + n) (suc m) ≡ nat_lt n m
 one_more n m = grind (arith, nat_tests)
@@ -224,3 +225,10 @@ spots_more members at member d spots more so_far below is pushed =
     spots_push from (y ∷ ys) x =
         ap (λ l. record { name = name_of y; place = from } ∷ l) (spots_push (from + 1) ys x)
         ∙ ap (λ n. record { name = name_of y; place = from } ∷ (spots_from (from + 1) ys ++ record { name = name_of x; place = n } ∷ [])) (let e : from + 1 + length ys ≡ from + suc (length ys) = omega arith in e)
+
+pub set_made : (members seen : List Member) → length members < 2 ^ 32 → RisesBy name_of members → seen ≡ members → AreInOrder seen
+set_made members seen small rises same = let P : List Member → Type 0 = AreInOrder in subst P (sym same) (record {
+  small = small;
+  order = NeverFallsBy-from_rises name_of members rises;
+  differ = rises_differ name_of members rises;
+})

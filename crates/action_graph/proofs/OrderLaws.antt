@@ -34,10 +34,10 @@ same_lists_on needs wanted listed (x ∷ xs) (y ∷ ys) one other whole ends =
 whole_ends : (needs : ℕ → List ℕ) (wanted : ℕ → Type 0) (listed : List ℕ) → ((place : ℕ) → wanted place → IsIn listed place) → (place : ℕ) → CanBeNext needs wanted listed place → ⊥
 whole_ends needs wanted listed whole place can = can.is_new (whole place can.is_wanted)
 
-one_is : (needs : ℕ → List ℕ) (wanted : ℕ → Type 0) (order other : List ℕ) → IsOrder needs wanted order → IsOrder needs wanted other → order ≡ other
+pub one_is : (needs : ℕ → List ℕ) (wanted : ℕ → Type 0) (order other : List ℕ) → IsOrder needs wanted order → IsOrder needs wanted other → order ≡ other
 one_is needs wanted order other one second = same_lists_on needs wanted [] order other one.steps second.steps one.whole (whole_ends needs wanted other second.whole)
 
-both_never : (needs : ℕ → List ℕ) (wanted : ℕ → Type 0) (order left : List ℕ) → IsOrder needs wanted order → Stops needs wanted left → ⊥
+pub both_never : (needs : ℕ → List ℕ) (wanted : ℕ → Type 0) (order left : List ℕ) → IsOrder needs wanted order → Stops needs wanted left → ⊥
 both_never needs wanted order left one stops = by left stops.others.those stops.some
   where
     by : (xs : List ℕ) → ((place : ℕ) → (IsIn xs place → wanted place × (IsIn stops.listed place → ⊥)) × (wanted place × (IsIn stops.listed place → ⊥) → IsIn xs place)) → (xs ≡ [] → ⊥) → ⊥
@@ -63,7 +63,7 @@ next_at needs wanted listed (x ∷ xs) goes (suc i) below =
     let P : List ℕ → Type 0 = λ l. CanBeNext needs wanted l (get_or xs i 0) in
     subst P (append_assoc listed (x ∷ []) (take i xs)) (next_at needs wanted (listed ++ x ∷ []) xs goes.1 i (omega (arith, below)))
 
-needs_first : (needs : ℕ → List ℕ) (wanted : ℕ → Type 0) (order : List ℕ) → GoesOn needs wanted [] order → NeedsComeFirst needs wanted order
+pub needs_first : (needs : ℕ → List ℕ) (wanted : ℕ → Type 0) (order : List ℕ) → GoesOn needs wanted [] order → NeedsComeFirst needs wanted order
 needs_first needs wanted order goes = record {
   all_wanted = λ i below. (next_at needs wanted [] order goes i below).is_wanted;
   once = λ i j before below same.

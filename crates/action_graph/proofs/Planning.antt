@@ -70,7 +70,7 @@ pub suits_made : (installed members seen : List Member) (spots : List Spot) → 
     → RisesBy name_of members → spots ≡ spots_in installed → seen ≡ members → Suits installed seen spots
 suits_made installed members seen spots small differ rises index same =
     let P : List Member → Type 0 = λ ms. Suits installed ms spots in
-    subst P (sym same) (record { small = small; rises = rises; order = NeverFallsBy-from_rises name_of members rises; differ = differ; index = index })
+    subst P (sym same) (record { small = small; rises = rises; order = NeverFallsBy-from_rises name_of members rises; apart = rises_differ name_of members rises; differ = differ; index = index })
 
 abbrev pub own : List ℕ → List ℕ
 own name = name

@@ -8,4 +8,6 @@ pub mod Plans
 pub mod Found
 pub mod Listing
 pub mod Nodes
+pub mod Looking
 pub mod GraphLaws
+pub mod PlanLaws

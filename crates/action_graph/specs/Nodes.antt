@@ -28,11 +28,18 @@ spots_from at (member ∷ members) = record { name = name_of member; place = at 
 abbrev pub spots_in : List Member → List Spot
 spots_in members = in_order_by spot_name (spots_from 0 members)
 
+-- members in the byte order of their names, each name once
+pub record AreInOrder (members : List Member) : Type 0 where
+  pub small : length members < 2 ^ 32
+  pub order : NeverFallsBy name_of members
+  pub differ : IsDistinct bytes_eq (map name_of members)
+
 -- what a change is asked of
 pub record Suits (installed members : List Member) (spots : List Spot) : Type 0 where
   pub small : length members + length installed < 2 ^ 32
   pub rises : RisesBy name_of members
   pub order : NeverFallsBy name_of members
+  pub apart : IsDistinct bytes_eq (map name_of members)
   pub differ : IsDistinct bytes_eq (map name_of installed)
   pub index : spots ≡ spots_in installed
 

@@ -117,7 +117,7 @@ impl<'a> Change<'a> {
     {
         match called(self.members, &InOrder, name) {
             None => Ok(Items::new(alloc)),
-            Some(member) => edge_places(alloc, &member.package, self.members),
+            Some(member) => edge_places(alloc, &member.package, self.members, &InOrder),
         }
     }
 
@@ -129,7 +129,7 @@ impl<'a> Change<'a> {
             leads ≡ nodes.leads_at self.now.installed.now self.now.members.now at) }
     {
         let entry = &self.installed[at];
-        let edges = edge_places(alloc, &entry.package, self.installed)?;
+        let edges = edge_places(alloc, &entry.package, self.installed, self.index)?;
         let mut leads = self.nodes_of(alloc, edges.as_slice())?.into_vec();
         let mut more = self
             .edges_called(alloc, &entry.package.pkg.name)?

@@ -1,7 +1,9 @@
 // Installs in their order, with what each needs.
 ghost use Rattle.std.specs.Prelude.{◌≡◌, ◌<◌, ◌≤◌, ◌^◌, length, map, IfOk, IfErr, EachIndex, slice_index};
-ghost use Rattle.opam_names.specs.ByteOrders.{NeverFallsBy};
+ghost use Rattle.opam_names.specs.ByteOrders.{NeverFallsBy, RisesBy};
+ghost use Rattle.action_graph.specs.Leaving.{name_of};
 ghost use Rattle.action_graph.specs.Links.{member_names};
+ghost use Rattle.action_graph.specs.Nodes.{AreInOrder};
 ghost use Rattle.action_graph.specs.Found.{IsLeft};
 ghost use Rattle.action_graph.specs.Listing.{IsMarked, named_marks, need_rows, step_in};
 ghost use Rattle.action_graph.specs.Places.{at_places};
@@ -9,6 +11,7 @@ ghost use Rattle.action_graph.specs.Plans.{AreNamedSteps, AreSteps, IsNamedStop,
 
 use crate::links::need_places;
 use crate::listing::{list_in_order, marked_places};
+use crate::lookup::InOrder;
 use crate::rows::Rows;
 use crate::{PlanFault, Step};
 use opam_names::{Items, Name, OutOfMemory, has_bytes};
@@ -16,12 +19,12 @@ use opam_package::{Member, Target};
 use std::alloc::Global;
 
 fn needs_of(alloc: Global, members: &[Member]) -> Result<Rows, OutOfMemory>
-    requires { length members.now < 2 ^ 32 }
+    requires { AreInOrder members.now }
     ensures { IfOk result (λ rows. rows ≡ need_rows members.now members.now) }
 {
     let mut rows = Rows::none(alloc);
     for member in members {
-        rows.push_row(need_places(alloc, &member.package, members)?)?;
+        rows.push_row(need_places(alloc, &member.package, members, &InOrder)?)?;
     }
     Ok(rows)
 }
@@ -70,7 +73,7 @@ pub(crate) fn steps_of(
     members: &[Member],
     wanted: &[bool],
 ) -> Result<Items<Step>, PlanFault>
-    requires small { length members.now < 2 ^ 32 }
+    requires set { AreInOrder members.now }
     requires counted { length wanted.now ≡ length members.now }
     ensures ok { IfOk result (AreSteps members.now (IsMarked wanted.now)) }
     ensures err { IfErr result (IsStopOf members.now (IsMarked wanted.now)) }
@@ -103,6 +106,7 @@ fn marks_of(alloc: Global, members: &[Member], names: &[Name]) -> Result<Items<b
 /// the one with the least name first. The names stand in the order of their bytes.
 pub fn order(alloc: Global, target: &Target, names: &[Name]) -> Result<Items<Step>, PlanFault>
     requires small { length target.now.members < 2 ^ 32 }
+    requires rises { RisesBy name_of target.now.members }
     requires names { NeverFallsBy (λ name. name) names.now }
     ensures ok { IfOk result (AreNamedSteps target.now names.now) }
     ensures err { IfErr result (IsNamedStop target.now names.now) }

@@ -1,5 +1,6 @@
 // Laws, each proved as a clause of a function that does nothing.
 ghost use Rattle.action_graph.specs.GraphLaws.{OneOrder, OrdersKeepNeeds, ReachedIsLeast};
+ghost use Rattle.action_graph.specs.PlanLaws.{OnePlan, PlansKeepOrder, SameIsDone};
 
 /// There is one order of the same members at most, and none where the order stops.
 pub fn order_is_one()
@@ -14,4 +15,19 @@ pub fn needs_come_first()
 /// A view is the least set that is closed as it is.
 pub fn reached_is_least()
     ensures { ReachedIsLeast }
+{}
+
+/// In a plan the last installed entry leaves first; each install stands once, and behind its needs among the installs.
+pub fn plans_keep_order()
+    ensures { PlansKeepOrder }
+{}
+
+/// There is one plan of a change at most, and none where its order stops.
+pub fn plan_is_one()
+    ensures { OnePlan }
+{}
+
+/// Where each name has the same version in the switch and in the target, and nothing is built once more, nothing is done.
+pub fn same_is_done()
+    ensures { SameIsDone }
 {}

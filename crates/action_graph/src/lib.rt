@@ -16,7 +16,10 @@ mod rows;
 mod views;
 
 pub use installs::order;
-pub use laws::{needs_come_first, order_is_one, reached_is_least};
+pub use laws::{
+    needs_come_first, order_is_one, plan_is_one, plans_keep_order, reached_is_least, same_is_done,
+};
+pub use lookup::are_in_order;
 pub use package_vars::View;
 pub use plan::{Plan, PlanFault, Step};
 pub use plans::plan_of;

@@ -1,59 +1,186 @@
-// To which members of a set a package leads, by their places.
-ghost use Rattle.std.specs.Prelude.{◌≡◌, ◌<◌, ◌^◌, length, IfOk, EachIndex, slice_index};
-ghost use Rattle.opam_package.specs.Dependencies.{is_edge, is_need};
+// To which members of a set a package leads, by their places. What it names is looked up, so that no other member is asked.
+ghost use Rattle.std.specs.Prelude.{◌≡◌, ◌∷◌, [], ◌<◌, ◌^◌, length, map, bytes_eq, IfOk, OnOk};
+ghost use Rattle.std.specs.List.{IsDistinct};
+ghost use Rattle.std.specs.Option.{option_copied};
+ghost use Rattle.action_graph.specs.Leaving.{name_of};
 ghost use Rattle.action_graph.specs.Links as links;
+ghost use Rattle.action_graph.specs.Looking.{Gathers, IsInOrder, is_named_by, is_wished_by, names_to_build, names_to_run};
+ghost use Rattle.action_graph.specs.Looking as looking;
 
-use opam_names::{Items, OutOfMemory, Pkg};
-use opam_package::{Member, Package, edges, needs};
+use crate::lookup::Lookup;
+use opam_filter::{Reduced, meets, names};
+use opam_names::{Items, Name, OutOfMemory};
+use opam_package::{Member, Need, Package};
 use std::alloc::Global;
-use std::slice::from_ref;
 
-fn runs_with(alloc: Global, dependent: &Package, other: &Pkg) -> Result<bool, OutOfMemory>
-    ensures { IfOk result (λ found. found ≡ is_edge dependent.now other.now) }
+// The names that the formulas keep when `build` and `post` are false.
+fn names_to_run(alloc: Global, needs: &[Need]) -> Result<Vec<Name>, OutOfMemory>
+    ensures { IfOk result (λ all. all.items ≡ looking.names_to_run needs.now) }
 {
-    let names = edges(alloc, dependent, from_ref(other))?;
-    Ok(!names.is_empty())
+    let mut all = Vec::new(alloc);
+    for need in needs {
+        let mut kept = names(alloc, &need.runtime)?.into_vec();
+        all.append(&mut kept)?;
+    }
+    Ok(all)
 }
 
-fn is_needed(alloc: Global, dependent: &Package, other: &Pkg) -> Result<bool, OutOfMemory>
-    ensures { IfOk result (λ found. found ≡ is_need dependent.now other.now) }
+// The same, and those that they keep when `build` is true.
+fn names_to_build(alloc: Global, needs: &[Need]) -> Result<Vec<Name>, OutOfMemory>
+    ensures { IfOk result (λ all. all.items ≡ looking.names_to_build needs.now) }
 {
-    let names = needs(alloc, dependent, from_ref(other))?;
-    Ok(!names.is_empty())
+    let mut all = Vec::new(alloc);
+    for need in needs {
+        let mut kept = names(alloc, &need.runtime)?.into_vec();
+        let mut built = names(alloc, &need.building)?.into_vec();
+        all.append(&mut kept)?;
+        all.append(&mut built)?;
+    }
+    Ok(all)
 }
 
-// The places of the members that the package needs when it runs.
-pub(crate) fn edge_places(
+fn atom_name(atom: &Reduced) -> Option<&Name>
+    ensures { option_copied result ≡ looking.atom_name atom.now }
+{
+    match atom {
+        Reduced::Atom { name, .. } => Some(name),
+        Reduced::Dropped | Reduced::And(_) | Reduced::Or(_) => None,
+    }
+}
+
+// Adds the place of the member of a name, where that is another one.
+fn note_name<L: Lookup>(
+    members: &[Member],
+    lookup: &L,
+    dependent: &Package,
+    name: &Name,
+    places: &mut Vec<u32>,
+) -> Result<(), OutOfMemory>
+    requires small { length members.now < 2 ^ 32 }
+    requires fit { L.fit lookup.now members.now }
+    requires differ { IsDistinct bytes_eq (map name_of members.now) }
+    ensures { OnOk result (Gathers members.now (is_named_by dependent.now (name.now ∷ []))
+        places.old.items places.new.items) }
+{
+    if *name == dependent.pkg.name {
+        return Ok(());
+    }
+    match lookup.find(members, name) {
+        None => {}
+        Some(place) => places.push(place)?,
+    }
+    Ok(())
+}
+
+fn note_names<L: Lookup>(
+    members: &[Member],
+    lookup: &L,
+    dependent: &Package,
+    names: &[Name],
+    places: &mut Vec<u32>,
+) -> Result<(), OutOfMemory>
+    requires small { length members.now < 2 ^ 32 }
+    requires fit { L.fit lookup.now members.now }
+    requires differ { IsDistinct bytes_eq (map name_of members.now) }
+    ensures { OnOk result (Gathers members.now (is_named_by dependent.now names.now)
+        places.old.items places.new.items) }
+{
+    for name in names {
+        note_name(members, lookup, dependent, name, places)?;
+    }
+    Ok(())
+}
+
+// Adds the place of the member that meets an atom, where that is another one.
+fn note_wish<L: Lookup>(
+    members: &[Member],
+    lookup: &L,
+    dependent: &Package,
+    atom: &Reduced,
+    places: &mut Vec<u32>,
+) -> Result<(), OutOfMemory>
+    requires small { length members.now < 2 ^ 32 }
+    requires fit { L.fit lookup.now members.now }
+    requires differ { IsDistinct bytes_eq (map name_of members.now) }
+    ensures { OnOk result (Gathers members.now (is_wished_by dependent.now (atom.now ∷ []))
+        places.old.items places.new.items) }
+{
+    match atom_name(atom) {
+        None => Ok(()),
+        Some(name) => match lookup.find(members, name) {
+            None => Ok(()),
+            Some(place) => {
+                let pkg = &members[place as usize].package.pkg;
+                if pkg.name != dependent.pkg.name && meets(atom, pkg) {
+                    places.push(place)?;
+                }
+                Ok(())
+            }
+        },
+    }
+}
+
+fn note_wishes<L: Lookup>(
+    members: &[Member],
+    lookup: &L,
+    dependent: &Package,
+    places: &mut Vec<u32>,
+) -> Result<(), OutOfMemory>
+    requires small { length members.now < 2 ^ 32 }
+    requires fit { L.fit lookup.now members.now }
+    requires differ { IsDistinct bytes_eq (map name_of members.now) }
+    ensures { OnOk result (Gathers members.now (is_wished_by dependent.now dependent.now.depopts)
+        places.old.items places.new.items) }
+{
+    for atom in dependent.depopts.as_slice() {
+        note_wish(members, lookup, dependent, atom, places)?;
+    }
+    Ok(())
+}
+
+fn put_in_order(places: &mut Vec<u32>)
+    ensures { IsInOrder places.old.items places.new.items }
+{
+    places.sort_unstable();
+    places.dedup();
+}
+
+/// The places of the members that the package needs when it runs.
+pub(crate) fn edge_places<L: Lookup>(
     alloc: Global,
     dependent: &Package,
     members: &[Member],
+    lookup: &L,
 ) -> Result<Items<u32>, OutOfMemory>
-    requires { length members.now < 2 ^ 32 }
+    requires small { length members.now < 2 ^ 32 }
+    requires fit { L.fit lookup.now members.now }
+    requires differ { IsDistinct bytes_eq (map name_of members.now) }
     ensures { IfOk result (λ places. places ≡ links.edge_places dependent.now members.now) }
 {
-    let mut places = Items::new(alloc);
-    for at in 0..members.len() {
-        if runs_with(alloc, dependent, &members[at].package.pkg)? {
-            places.push(at as u32)?;
-        }
-    }
-    Ok(places)
+    let named = names_to_run(alloc, dependent.items.as_slice())?;
+    let mut places = Vec::new(alloc);
+    note_names(members, lookup, dependent, named.as_slice(), &mut places)?;
+    note_wishes(members, lookup, dependent, &mut places)?;
+    put_in_order(&mut places);
+    Ok(Items::from_vec(places))
 }
 
-// The places of those that it needs when it runs or is built.
-pub(crate) fn need_places(
+/// The places of those that it needs when it runs or is built.
+pub(crate) fn need_places<L: Lookup>(
     alloc: Global,
     dependent: &Package,
     members: &[Member],
+    lookup: &L,
 ) -> Result<Items<u32>, OutOfMemory>
-    requires { length members.now < 2 ^ 32 }
+    requires small { length members.now < 2 ^ 32 }
+    requires fit { L.fit lookup.now members.now }
+    requires differ { IsDistinct bytes_eq (map name_of members.now) }
     ensures { IfOk result (λ places. places ≡ links.need_places dependent.now members.now) }
 {
-    let mut places = Items::new(alloc);
-    for at in 0..members.len() {
-        if is_needed(alloc, dependent, &members[at].package.pkg)? {
-            places.push(at as u32)?;
-        }
-    }
-    Ok(places)
+    let named = names_to_build(alloc, dependent.items.as_slice())?;
+    let mut places = Vec::new(alloc);
+    note_names(members, lookup, dependent, named.as_slice(), &mut places)?;
+    note_wishes(members, lookup, dependent, &mut places)?;
+    put_in_order(&mut places);
+    Ok(Items::from_vec(places))
 }

@@ -1,7 +1,7 @@
 // Where the member of a name stands, found by halves.
-ghost use Rattle.std.specs.Prelude.{◌≡◌, ◌<◌, ◌≤◌, ◌^◌, length, IfOk};
+ghost use Rattle.std.specs.Prelude.{◌≡◌, ◌↔◌, IsTrue, ◌<◌, ◌≤◌, ◌^◌, length, IfOk};
 ghost use Rattle.std.specs.Option.{option_copied};
-ghost use Rattle.opam_names.specs.ByteOrders.{NeverFallsBy, count_before, place_of_key};
+ghost use Rattle.opam_names.specs.ByteOrders.{NeverFallsBy, RisesBy, count_before, place_of_key};
 ghost use Rattle.action_graph.specs.Leaving.{member_called, name_of};
 ghost use Rattle.action_graph.specs.Nodes.{spots_from, spots_in};
 
@@ -57,6 +57,13 @@ fn bytes_of(member: &Member) -> &[u8]
     ensures { result.now ≡ name_of member.now }
 {
     member.package.pkg.name.as_str().as_bytes()
+}
+
+/// Whether members stand in the byte order of their names, each name once.
+pub fn are_in_order(members: &[Member]) -> bool
+    ensures { IsTrue result ↔ RisesBy name_of members.now }
+{
+    members.is_sorted_by(|one, next| bytes_of(one).cmp(bytes_of(next)).is_lt())
 }
 
 impl Lookup for InOrder {

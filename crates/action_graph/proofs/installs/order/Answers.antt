@@ -1,5 +1,9 @@
+use Rattle.action_graph.proofs.Lookups.{set_made}
 use Rattle.action_graph.proofs.Stopping.{order_err, order_ok}
 use Rattle.action_graph.proofs.installs.order.Goals as goal
+
+pub steps_of-requires-clause-set : goal.steps_of-requires-clause-set
+steps_of-requires-clause-set c = set_made c.args.target.now.members c.as_slice-members.result.now c.requires.small c.requires.rises c.as_slice-members.ensures
 
 pub returns-clause-ok : goal.returns-clause-ok
 returns-clause-ok c =

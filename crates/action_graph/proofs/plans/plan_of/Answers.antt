@@ -1,3 +1,5 @@
+use Rattle.std.proofs.Common.{arith}
+use Rattle.action_graph.proofs.Lookups.{set_made}
 use Rattle.action_graph.proofs.Planning.{affects_seen, cycle_is, entries_seen, installs_are, redo_same, redo_up, removals_are, suits_made}
 use Rattle.action_graph.proofs.plans.plan_of.Goals as goal
 
@@ -12,6 +14,10 @@ affected-requires-clause-redo c =
 pub leaving-requires-clause-suits : goal.leaving-requires-clause-suits
 leaving-requires-clause-suits c =
     suits_made c.args.installed.now c.args.target.now.members c.as_slice-2.result.now c.in_ok-index.index.spots c.requires.small c.requires.differ c.requires.rises c.in_ok-index.ensures c.as_slice-2.ensures
+
+pub steps_of-requires-clause-set : goal.steps_of-requires-clause-set
+steps_of-requires-clause-set c =
+    set_made c.args.target.now.members c.as_slice-2.result.now (omega (arith, c.requires.small)) c.requires.rises c.as_slice-2.ensures
 
 pub returns-in_err-steps_of-clause-cycle : goal.returns-in_err-steps_of-clause-cycle
 returns-in_err-steps_of-clause-cycle c =

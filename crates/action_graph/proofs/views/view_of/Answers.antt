@@ -1,8 +1,18 @@
 use Rattle.std.proofs.Common.{ℕ, ◌<◌, length, get_or, List, arith, ◌∙◌, sym, ap, subst}
 use Rattle.opam_package.specs.declared.package.Member.{Member}
 use Rattle.action_graph.specs.Links.{need_places}
+use Rattle.action_graph.proofs.Lookups.{set_made}
 use Rattle.action_graph.proofs.Placing.{marked_fit, needs_fit, view_is}
 use Rattle.action_graph.proofs.views.view_of.Goals as goal
+
+pub need_places-requires-clause-fit : goal.need_places-requires-clause-fit
+need_places-requires-clause-fit c = (set_made c.args.target.now.members c.as_slice-members.result.now c.requires.small c.requires.rises c.as_slice-members.ensures).order
+
+pub need_places-requires-clause-differ : goal.need_places-requires-clause-differ
+need_places-requires-clause-differ c = (set_made c.args.target.now.members c.as_slice-members.result.now c.requires.small c.requires.rises c.as_slice-members.ensures).differ
+
+pub reach-requires-clause-fit : goal.reach-requires-clause-fit
+reach-requires-clause-fit c = set_made c.args.target.now.members c.args.target.now.members c.requires.small c.requires.rises (λ i. c.args.target.now.members)
 
 pub reach-requires-clause-within : goal.reach-requires-clause-within
 reach-requires-clause-within c =
