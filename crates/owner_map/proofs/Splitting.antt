@@ -2,9 +2,13 @@
 use Rattle.std.proofs.Common.{◌≡◌, ℕ, zero, suc, ◌+◌, ◌-◌, ◌<◌, ◌≤◌, Bool, true, false, List, [], ◌∷◌, ◌++◌, map, filter, length, take, drop, get_or, insert, refl, sym, ◌∙◌, ap, subst, cond, arith, append_assoc}
 use Rattle.std.specs.Prelude.{slice_get, slice_set}
 use Rattle.std.specs.List.{AllByRecursion, swap}
-use Rattle.std.proofs.lemmas.List.{append-nil, get_or_default, length-append, length-drop, length-map, length-take, take_more, take-append-drop}
+use Rattle.std.proofs.lemmas.List.{append-nil, get_or_default, length-append, length-drop, length-map, length-take, map-append, take_more, take-append-drop}
+use Rattle.std.proofs.lemmas.List.Elements.{filter-append}
+use Rattle.opam_names.specs.declared.packages.Pkg.{Pkg}
 use Rattle.owner_map.specs.Chunks.{AllEmpty, AllShort, Shaped, debt, joined, split_off, without_last}
+use Rattle.owner_map.specs.Owning.{is_owned_by, path_of, paths_of, paths_owned_by}
 use Rattle.owner_map.specs.declared.chunk.TheConstants.{CHUNK_LIMIT, CHUNK_HALF}
+use Rattle.owner_map.specs.declared.owned.OwnedPath.{OwnedPath}
 
 module _ {X : Type 0} where
   -- ---- one chunk changed
@@ -438,3 +442,14 @@ module _ {X : Type 0} where
   ended f [] (suc i) long = refl
   ended f (c ∷ old) zero long = absurd (omega (arith, long))
   ended f (c ∷ old) (suc i) long = ap (λ l. f c ∷ l) (ended f old i (omega (arith, long)))
+
+owned_append : (owner : Pkg) (one other : List OwnedPath) → paths_owned_by owner (one ++ other) ≡ paths_owned_by owner one ++ paths_owned_by owner other
+owned_append owner one other = ap paths_of (filter-append (is_owned_by owner) one other) ∙ map-append path_of (filter (is_owned_by owner) one) (filter (is_owned_by owner) other)
+
+-- one chunk more
+pub owned_more : (owner : Pkg) (cs : List (List OwnedPath)) (i : ℕ) (c : List OwnedPath) → i < length cs → c ≡ get_or cs i c → paths_owned_by owner (joined (take (i + 1) cs)) ≡ paths_owned_by owner (joined (take i cs)) ++ paths_owned_by owner c
+owned_more owner cs i c within is =
+    let chunk : get_or cs i [] ≡ c = sym (chunk_is cs i c within is) in
+    ap (λ (l : List (List OwnedPath)). paths_owned_by owner (joined l)) (take_more cs i [] within ∙ ap (λ (d : List OwnedPath). take i cs ++ d ∷ []) chunk)
+    ∙ ap (paths_owned_by owner) (joined_append (take i cs) (c ∷ []) ∙ ap (λ (l : List OwnedPath). joined (take i cs) ++ l) (append-nil c))
+    ∙ owned_append owner (joined (take i cs)) c

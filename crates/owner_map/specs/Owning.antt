@@ -1,5 +1,5 @@
 -- Whose the paths of a switch are: a list in byte order of paths, of which none is above another. This project's own.
-use Rattle.std.specs.Prelude.{ℕ, List, map, Bool, bytes_eq, not, ◌&&◌}
+use Rattle.std.specs.Prelude.{ℕ, List, map, filter, Bool, bytes_eq, not, ◌&&◌}
 use Rattle.std.specs.List.{find}
 use Rattle.std.specs.Option.{option_map}
 use Rattle.std.specs.declared.option.Option.{Option}
@@ -37,3 +37,11 @@ is_same_pkg one other = bytes_eq one.name other.name && bytes_eq one.version oth
 -- another package owns the path
 abbrev pub is_of_another : Pkg → OwnedPath → Bool
 is_of_another pkg entry = not (is_same_pkg entry.owner pkg)
+
+-- this package owns the path
+abbrev pub is_owned_by : Pkg → OwnedPath → Bool
+is_owned_by pkg entry = is_same_pkg entry.owner pkg
+
+-- the paths that a package owns, in byte order
+abbrev pub paths_owned_by : Pkg → List OwnedPath → List (List ℕ)
+paths_owned_by pkg owned = paths_of (filter (is_owned_by pkg) owned)

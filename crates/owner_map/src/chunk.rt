@@ -1,11 +1,11 @@
 // A part of a sorted list, with room for a fixed number of elements.
-ghost use Rattle.std.specs.Prelude.{◌≡◌, ◌+◌, ◌<◌, ◌≤◌, [], ◌++◌, drop, filter, insert, length, take, IfOk};
+ghost use Rattle.std.specs.Prelude.{◌≡◌, ◌+◌, ◌<◌, ◌≤◌, [], ◌++◌, drop, filter, insert, length, take, IfOk, OnOk};
 ghost use Rattle.opam_names.specs.ByteOrders.{RisesBy, put_by};
 ghost use Rattle.owner_map.specs.Chunks.{ends_before};
-ghost use Rattle.owner_map.specs.Owning.{is_of_another};
+ghost use Rattle.owner_map.specs.Owning.{is_of_another, paths_owned_by};
 
 use crate::OwnedPath;
-use opam_names::{ByteKey, OutOfMemory, Pkg, count_before_bytes};
+use opam_names::{ByteKey, Items, OutOfMemory, Pkg, RelPath, count_before_bytes};
 use std::alloc::Global;
 use std::marker::Model;
 
@@ -111,6 +111,23 @@ impl<T: ByteKey + Drop> Chunk<T> {
 }
 
 impl Chunk<OwnedPath> {
+    /// Adds the paths that the package owns.
+    pub(crate) fn add_paths(
+        &self,
+        paths: &mut Items<RelPath>,
+        owner: &Pkg,
+        alloc: Global,
+    ) -> Result<(), OutOfMemory>
+        ensures { OnOk result (paths.new ≡ paths.old ++ paths_owned_by owner.now self.now) }
+    {
+        for entry in self.as_slice() {
+            if entry.owner.name == owner.name && entry.owner.version == owner.version {
+                paths.push(entry.path.copy(alloc)?)?;
+            }
+        }
+        Ok(())
+    }
+
     /// Drops what a package owns: how many paths that were.
     pub(crate) fn drop_owner(&mut self, owner: &Pkg) -> usize
         ensures items { self.new ≡ filter (is_of_another owner.now) self.old }

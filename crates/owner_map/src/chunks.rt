@@ -1,12 +1,12 @@
 // The chunks of a sorted list: those with elements stand first.
-ghost use Rattle.std.specs.Prelude.{◌≡◌, ◌+◌, ◌-◌, ◌*◌, ◌^◌, ◌<◌, ◌≤◌, [], drop, filter, insert, length, map, max, slice_get, slice_index_or, slice_set, take, OnOk};
+ghost use Rattle.std.specs.Prelude.{◌≡◌, ◌+◌, ◌-◌, ◌*◌, ◌^◌, ◌<◌, ◌≤◌, [], drop, filter, insert, length, map, max, slice_get, slice_index_or, slice_set, take, IfOk, OnOk};
 ghost use Rattle.opam_names.specs.ByteOrders.{RisesBy, put_by};
 ghost use Rattle.owner_map.specs.Chunks.{AllEmpty, AllShort, IsRoomFor, Shaped, chunk_for, chunk_from, debt, joined, split_off};
-ghost use Rattle.owner_map.specs.Owning.{is_of_another};
+ghost use Rattle.owner_map.specs.Owning.{is_of_another, paths_owned_by};
 
 use crate::OwnedPath;
 use crate::chunk::{CHUNK_HALF, CHUNK_LIMIT, Chunk};
-use opam_names::{ByteKey, OutOfMemory, Pkg};
+use opam_names::{ByteKey, Items, OutOfMemory, Pkg, RelPath};
 use std::alloc::Global;
 
 /// The chunk in which the first element stands that does not stand before this text.
@@ -126,6 +126,21 @@ pub(crate) fn split<T: Drop>(chunks: &mut Vec<Chunk<T>>, at: usize)
         }
         None => {}
     }
+}
+
+/// The paths that a package owns, in the order of the list.
+pub(crate) fn paths_of(
+    chunks: &[Chunk<OwnedPath>],
+    owner: &Pkg,
+    alloc: Global,
+) -> Result<Items<RelPath>, OutOfMemory>
+    ensures { IfOk result (λ paths. paths ≡ paths_owned_by owner.now (joined chunks.now)) }
+{
+    let mut paths = Items::new(alloc);
+    for chunk in chunks {
+        chunk.add_paths(&mut paths, owner, alloc)?;
+    }
+    Ok(paths)
 }
 
 /// Drops what a package owns from each chunk: how many paths that were.

@@ -5,7 +5,7 @@ ghost use Rattle.std.specs.Option.{option_copied};
 ghost use Rattle.opam_names.specs.ByteOrders.{count_before, put_by};
 ghost use Rattle.path_order.specs.Apart.{meets};
 ghost use Rattle.owner_map.specs.Clashes.{IsClash, IsFree, IsLeastMet, NoneClash};
-ghost use Rattle.owner_map.specs.Owning.{is_of_another, owned_by, owner_of, path_of, paths_of};
+ghost use Rattle.owner_map.specs.Owning.{is_of_another, owned_by, owner_of, path_of, paths_of, paths_owned_by};
 ghost use Rattle.owner_map.specs.Searching.{Gathers, below_bound};
 ghost use Rattle.owner_map.specs.declared.clash.Other.TheVariants.{Owned};
 
@@ -14,7 +14,7 @@ use crate::earlier::Place;
 use crate::meeting::{find_met, find_text};
 use crate::owned::OwnedPath;
 use crate::sorted_list::SortedList;
-use opam_names::{ByteKey, OutOfMemory, Pkg, RelPath};
+use opam_names::{ByteKey, Items, OutOfMemory, Pkg, RelPath};
 use path_order::stands_before;
 use std::alloc::Global;
 use std::marker::Model;
@@ -73,6 +73,13 @@ impl Owners {
     {
         let entry = self.list.at(i);
         (&entry.path, &entry.owner)
+    }
+
+    /// The paths that the package owns, in byte order. The list is walked once.
+    pub fn paths_of(&self, owner: &Pkg) -> Result<Items<RelPath>, OutOfMemory>
+        ensures { IfOk result (λ paths. paths ≡ paths_owned_by owner.now self.now.owned) }
+    {
+        self.list.paths_of(owner)
     }
 
     /// The first of new paths that is the same as an owned path or an earlier new one, above it or below it; and which

@@ -1,17 +1,17 @@
 // A list in the byte order of a key, with room made beforehand.
-ghost use Rattle.std.specs.Prelude.{◌≡◌, ◌+◌, ◌<◌, ◌≤◌, [], length, filter, slice_get, slice_index_or, OnOk};
+ghost use Rattle.std.specs.Prelude.{◌≡◌, ◌+◌, ◌<◌, ◌≤◌, [], length, filter, slice_get, slice_index_or, IfOk, OnOk};
 ghost use Rattle.std.specs.List.{find};
 ghost use Rattle.std.specs.Option.{option_copied};
 ghost use Rattle.opam_names.specs.ByteOrders.{RisesBy, count_before, put_by};
-ghost use Rattle.owner_map.specs.Owning.{is_of_another};
+ghost use Rattle.owner_map.specs.Owning.{is_of_another, paths_owned_by};
 ghost use Rattle.owner_map.specs.Searching.{is_from};
 
 use crate::OwnedPath;
 use crate::chunk::{CHUNK_LIMIT, Chunk};
 use crate::chunks::{
-    chunk_for, chunk_from, count_all, drop_from_each, element, gather, make_room, split,
+    chunk_for, chunk_from, count_all, drop_from_each, element, gather, make_room, paths_of, split,
 };
-use opam_names::{ByteKey, OutOfMemory, Pkg, count_before_bytes};
+use opam_names::{ByteKey, Items, OutOfMemory, Pkg, RelPath, count_before_bytes};
 use std::alloc::Global;
 use std::marker::Model;
 
@@ -138,6 +138,13 @@ impl<T: ByteKey + Drop> SortedList<T> {
 }
 
 impl SortedList<OwnedPath> {
+    /// The paths that a package owns.
+    pub(crate) fn paths_of(&self, owner: &Pkg) -> Result<Items<RelPath>, OutOfMemory>
+        ensures { IfOk result (λ paths. paths ≡ paths_owned_by owner.now self.now.items) }
+    {
+        paths_of(self.chunks.as_slice(), owner, self.alloc)
+    }
+
     /// Drops what a package owns: how many paths that were.
     pub(crate) fn drop_owner(&mut self, owner: &Pkg) -> usize
         ensures items { self.new.items ≡ filter (is_of_another owner.now) self.old.items }

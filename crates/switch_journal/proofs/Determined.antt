@@ -11,22 +11,22 @@ use Rattle.switch_journal.specs.Contents.{Contents}
 use Rattle.switch_journal.specs.Places.{is_open}
 use Rattle.switch_journal.specs.Reading.{Applies, Counts, FoundSlot, HasSlot, IsOld, IsSlotBad, Outcome, Reads, SlotIs, SpellsRecord, SpellsSlot, after_record, no_more, one_more, bad, is_shut, is_found, first_slot_bad, second_slot_bad, read, counting, first_contents, first_number, at_end}
 
-some_same : {X : Type 0} {a b : X} → Some a ≡ Some b → a ≡ b
+pub some_same : {X : Type 0} {a b : X} → Some a ≡ Some b → a ≡ b
 some_same is = cc
 
-same_record : OneRecordForBytes → (old : Bool) (a b : Rec) (text : List ℕ) → SpellsRecord old a text → SpellsRecord old b text → a ≡ b
+pub same_record : OneRecordForBytes → (old : Bool) (a b : Rec) (text : List ℕ) → SpellsRecord old a text → SpellsRecord old b text → a ≡ b
 same_record law true a b text one other = law.old a b text one other
 same_record law false a b text one other = law.written a b text one other
 
 -- record k is applied in one way
-applies_once : OneRecordForBytes → {old : Bool} {tree : Tree} {k : ℕ} {c a b : Contents} → Applies old tree k c a → Applies old tree k c b → a ≡ b
+pub applies_once : OneRecordForBytes → {old : Bool} {tree : Tree} {k : ℕ} {c a b : Contents} → Applies old tree k c a → Applies old tree k c b → a ≡ b
 applies_once law {old} {tree} {k} {c} {a} {b} one other =
     let texts : one.text ≡ other.text = some_same (sym one.there ∙ other.there) in
     let entries : one.entry ≡ other.entry = same_record law old one.entry other.entry other.text (subst (SpellsRecord old one.entry) texts one.spelled) other.spelled in
     some_same (sym one.applies ∙ ap (λ entry. after_record old k entry c) entries ∙ other.applies)
 
 -- a gate is not shut and open
-not_both : (k : ℕ) (tree : Tree) → IsFalse (is_open k tree) → IsTrue (is_open k tree) → ⊥
+pub not_both : (k : ℕ) (tree : Tree) → IsFalse (is_open k tree) → IsTrue (is_open k tree) → ⊥
 not_both k tree closed opened = absurd (let e : false ≡ true = sym closed ∙ opened in cc)
 
 -- records are counted in one way
@@ -49,7 +49,7 @@ counts_once law old tree k c a b (bad opens none) (bad other nothing) = refl
 not_both_formats : (a b : Snapshot) (text : List ℕ) → IsOldSlotSpelledBy a text → IsSlotSpelledBy b text → ⊥
 not_both_formats a b text one other = absurd (let e : true ≡ false = ap (λ (bytes : List ℕ). slice_index_or bytes 7 0 == 49) (sym one.bytes_are ∙ other.bytes_are) in cc)
 
-same_slot : OneSlotForBytes → (old new : Bool) (a b : Snapshot) (text : List ℕ) → SpellsSlot old a text → SpellsSlot new b text → (old ≡ new) × (a ≡ b)
+pub same_slot : OneSlotForBytes → (old new : Bool) (a b : Snapshot) (text : List ℕ) → SpellsSlot old a text → SpellsSlot new b text → (old ≡ new) × (a ≡ b)
 same_slot law true true a b text one other = (refl, law.old a b text one other)
 same_slot law true false a b text one other = absurd (not_both_formats a b text one other)
 same_slot law false true a b text one other = absurd (not_both_formats b a text other one)
@@ -61,7 +61,7 @@ has_once law tree place old new a b one other =
     let texts : one.text ≡ other.text = let e : Some (Some one.text) ≡ Some (Some other.text) = sym one.there ∙ other.there in cc in
     same_slot law old new a b other.text (subst (SpellsSlot old a) texts one.spelled) other.spelled
 
-slot_once : OneSlotForBytes → (tree : Tree) (place : Bool) (a b : Option FoundSlot) → SlotIs tree place a → SlotIs tree place b → a ≡ b
+pub slot_once : OneSlotForBytes → (tree : Tree) (place : Bool) (a b : Option FoundSlot) → SlotIs tree place a → SlotIs tree place b → a ≡ b
 slot_once law tree place a b (is_shut is) (is_shut other) = refl
 slot_once law tree place a b (is_shut is) (is_found has) = let e : None ≡ Some (Some has.text) = sym is ∙ has.there in absurd (cc)
 slot_once law tree place a b (is_found has) (is_shut is) = let e : None ≡ Some (Some has.text) = sym is ∙ has.there in absurd (cc)
@@ -70,13 +70,13 @@ slot_once law tree place a b (is_found {old = old} {slot = one} has) (is_found {
     λ i. Some (record { old = same.0 i; place = place; slot = same.1 i })
 
 -- a slot is not read and bad
-not_bad : (tree : Tree) (place : Bool) (a : Option FoundSlot) → SlotIs tree place a → IsSlotBad tree place → ⊥
+pub not_bad : (tree : Tree) (place : Bool) (a : Option FoundSlot) → SlotIs tree place a → IsSlotBad tree place → ⊥
 not_bad tree place a (is_shut is) is_bad = is_bad.is_open is
 not_bad tree place a (is_found {old = old} {slot = slot} has) is_bad = is_bad.none old slot has
 
 -- ---- the whole
 
-one_format : (tree : Tree) (slot : Option FoundSlot) (a b : Bool) → IsOld tree slot a → IsOld tree slot b → a ≡ b
+pub one_format : (tree : Tree) (slot : Option FoundSlot) (a b : Bool) → IsOld tree slot a → IsOld tree slot b → a ≡ b
 one_format tree (Some slot) a b one other = sym one ∙ other
 one_format tree None true true one other = refl
 one_format tree None true false one other = absurd (other one)

@@ -1,10 +1,12 @@
 pub mod Apart
 pub mod Applied
 pub mod Bridge
+pub mod Coming
 pub mod CommitStops
 pub mod Committed
 pub mod Determined
 pub mod GatedTells
+pub mod SaidWhen
 pub mod Numbered
 pub mod Outside
 pub mod Read

@@ -19,12 +19,12 @@ use Rattle.journal_text.specs.declared.slot.Snapshot.{Snapshot}
 use Rattle.opam_names.specs.ByteOrders.{precedes, put_by}
 use Rattle.opam_names.specs.Paths.{is_above}
 use Rattle.opam_names.specs.declared.packages.Pkg.{Pkg}
-use Rattle.owner_map.specs.Owning.{is_of_another, owned_by, path_of, paths_of}
+use Rattle.owner_map.specs.Owning.{is_of_another, is_owned_by, owned_by, path_of, paths_of}
 use Rattle.owner_map.specs.declared.owned.OwnedPath.{OwnedPath}
 use Rattle.switch_journal.specs.Applying.{begun, ended, installed, own, put_back, removed}
 use Rattle.switch_journal.specs.Commits.{is_outside}
 use Rattle.switch_journal.specs.Contents.{Contents}
-use Rattle.switch_journal.specs.Journal.{CountsTo, Head, IsReadAt, is_owned_by, no_more, one_more, paths_owned_by, put_of, removal_of, said_by, work_of}
+use Rattle.switch_journal.specs.Journal.{CountsTo, Head, IsReadAt, no_more, one_more, paths_owned_by, put_of, removal_of, said_by, work_of}
 use Rattle.switch_journal.specs.Places.{record_path}
 use Rattle.switch_journal.specs.Reading.{FoundSlot, SlotIs, SpellsRecord, SpellsSlot, after_record, counting, first_contents, is_found, owned_with, second_counts}
 use Rattle.switch_journal.specs.declared.request.Open.{Open}

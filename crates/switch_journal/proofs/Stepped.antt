@@ -47,7 +47,7 @@ old_seventh End text one = absurd (let e : None ≡ Some text = one.bytes_are in
 new_seventh : (a : Rec) (text : List ℕ) → IsSpelledBy a text → slice_index_or text 7 0 ≡ 50
 new_seventh a text one = ap (λ (b : List ℕ). slice_index_or b 7 0) one.bytes_are
 
-not_both_formats : (a b : Rec) (text : List ℕ) → IsOldSpelledBy a text → IsSpelledBy b text → ⊥
+pub not_both_formats : (a b : Rec) (text : List ℕ) → IsOldSpelledBy a text → IsSpelledBy b text → ⊥
 not_both_formats a b text one other = let e : 49 ≡ 50 = sym (old_seventh a text one) ∙ new_seventh b text other in absurd (omega (arith, e))
 
 some_text : {a b : List ℕ} → Some a ≡ Some b → a ≡ b

@@ -12,14 +12,15 @@ use Rattle.journal_text.specs.declared.record.KeptFiles.{KeptFiles}
 use Rattle.journal_text.specs.declared.record.Placed.{Placed}
 use Rattle.journal_text.specs.declared.record.Rec.{Rec}
 use Rattle.journal_text.specs.declared.record.Rec.TheVariants.{Install, PutBack, Remove, Begin, End}
-use Rattle.owner_map.specs.Owning.{is_same_pkg, is_of_another, owned_by, owner_of, path_of}
+use Rattle.owner_map.specs.Owning.{is_of_another, is_same_pkg, owned_by, owner_of, path_of}
 use Rattle.owner_map.specs.Owning as owning
 use Rattle.owner_map.specs.declared.owned.OwnedPath.{OwnedPath}
-use Rattle.switch_journal.specs.Contents.{Contents, Standing, entry_of}
+use Rattle.switch_journal.specs.Contents.{Contents, entry_of}
 use Rattle.switch_journal.specs.declared.request.Done.{Done}
 use Rattle.switch_journal.specs.declared.request.Done.TheVariants as done
 use Rattle.switch_journal.specs.declared.request.Open.{Open}
 use Rattle.switch_journal.specs.declared.request.TheConstants.{ENTRY_LIMIT, OWNED_LIMIT, TEXT_LIMIT}
+use Rattle.switch_journal.specs.declared.standing.Standing.{Standing}
 
 -- ---- what is installed
 

@@ -4,11 +4,7 @@ use Rattle.std.specs.declared.option.Option.{Option}
 use Rattle.journal_text.specs.declared.record.Entry.{Entry}
 use Rattle.owner_map.specs.declared.owned.OwnedPath.{OwnedPath}
 use Rattle.switch_journal.specs.declared.request.Open.{Open}
-
--- an installed package, and the record or the slot from which it comes
-pub record Standing : Type 0 where
-  pub entry : Entry
-  pub from : List ℕ
+use Rattle.switch_journal.specs.declared.standing.Standing.{Standing}
 
 -- what is installed, in the order of installation; whose each path is; what was asked for; and the request that is open
 pub record Contents : Type 0 where

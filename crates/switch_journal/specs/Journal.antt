@@ -1,6 +1,6 @@
 -- What a journal is to those who write it: the numbers with which the files of a disk are read, and what they come to once the last
 -- record's work is done again. This project's own.
-use Rattle.std.specs.Prelude.{◌≡◌, ℕ, ◌+◌, ◌-◌, List, [], map, filter, Bool, true, false, nat_le, ◌||◌, IsTrue, IsFalse, is_some}
+use Rattle.std.specs.Prelude.{◌≡◌, ℕ, ◌+◌, ◌-◌, List, [], map, Bool, true, false, nat_le, ◌||◌, IsTrue, IsFalse, is_some}
 use Rattle.std.specs.FinMap.{get}
 use Rattle.std.specs.Option.{option_map}
 use Rattle.std.specs.declared.option.Option.{Option}
@@ -14,8 +14,7 @@ use Rattle.journal_text.specs.declared.record.Placed.{Placed}
 use Rattle.journal_text.specs.declared.record.Rec.{Rec}
 use Rattle.journal_text.specs.declared.record.Rec.TheVariants.{Install, PutBack, Remove, Begin, End}
 use Rattle.opam_names.specs.declared.packages.Pkg.{Pkg}
-use Rattle.owner_map.specs.Owning.{is_same_pkg, paths_of}
-use Rattle.owner_map.specs.declared.owned.OwnedPath.{OwnedPath}
+use Rattle.owner_map.specs.Owning as owning
 use Rattle.switch_journal.specs.Contents.{Contents}
 use Rattle.switch_journal.specs.Places.{is_inside, is_open}
 use Rattle.switch_journal.specs.Reading.{Applies, FoundSlot, IsOld, SlotIs, counting, first_contents, first_number, with_all_roots}
@@ -29,12 +28,9 @@ put_of file = write.Put file.path file.bytes file.exec
 abbrev pub removal_of : List ℕ → Write
 removal_of path = write.Remove path
 
-abbrev pub is_owned_by : Pkg → OwnedPath → Bool
-is_owned_by pkg owned = is_same_pkg owned.owner pkg
-
 -- the paths that a package owns, in byte order
 abbrev pub paths_owned_by : Pkg → Contents → List (List ℕ)
-paths_owned_by pkg c = paths_of (filter (is_owned_by pkg) c.owned)
+paths_owned_by pkg c = owning.paths_owned_by pkg c.owned
 
 -- a record's work: one that brings a package puts its files, and one that removes it takes these paths away
 abbrev pub work_with : Rec → List (List ℕ) → List Write

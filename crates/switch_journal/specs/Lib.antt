@@ -10,3 +10,4 @@ pub mod Reading
 pub mod Journal
 pub mod Steps
 pub mod Snapshots
+pub mod Keeping

@@ -17,9 +17,10 @@ use Rattle.journal_text.specs.declared.slot.Snapshot.{Snapshot}
 use Rattle.owner_map.specs.Owning.{owned_by}
 use Rattle.owner_map.specs.declared.owned.OwnedPath.{OwnedPath}
 use Rattle.switch_journal.specs.Applying.{applied, are_few, are_few_paths, entries_of, old_applied}
-use Rattle.switch_journal.specs.Contents.{Contents, Standing}
+use Rattle.switch_journal.specs.Contents.{Contents}
 use Rattle.switch_journal.specs.Places.{is_open, record_path, slot_path, text_of}
 use Rattle.switch_journal.specs.Texts.{slot_at}
+use Rattle.switch_journal.specs.declared.standing.Standing.{Standing}
 
 -- what is read: contents, or the path of the first bad file
 pub data Outcome : Type 0 where

@@ -2,19 +2,25 @@
 //! what a stop of the machine at any moment of this leaves.
 #![tactic(auto)]
 
+mod asked;
+mod changes;
 mod commits;
+mod conditions;
 mod gated;
 mod journal;
+mod kept;
 mod laws;
 mod places;
 mod request;
 mod slots;
 mod snapshots;
+mod standing;
 mod steps;
 
 pub use commits::{Ready, commit, make_ready, redo};
 pub use gated::{Gated, read_record, read_slot};
 pub use journal::{Journal, RECORDS_TO_SLOT};
+pub use kept::Kept;
 pub use laws::{
     a_journal_is_read_by_its_files, readings_are_determined, readings_are_of_the_journal,
     records_are_determined,
@@ -22,3 +28,4 @@ pub use laws::{
 pub use places::{gate_path_of, record_path_of, slot_gate_of, slot_path_of};
 pub use request::{Done, ENTRY_LIMIT, OWNED_LIMIT, Open, TEXT_LIMIT};
 pub use slots::{ReadySlot, make_slot, write_slot};
+pub use standing::Standing;

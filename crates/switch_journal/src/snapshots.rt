@@ -43,6 +43,13 @@ impl Journal {
         make_slot(alloc, place, is_open, text, self.first, count)
     }
 
+    /// The number that the next record gets.
+    pub fn next_number(&self) -> u64
+        ensures { result ≡ self.now.next }
+    {
+        self.next
+    }
+
     /// The number of the last record, which a slot of this journal has.
     pub fn last_number(&self) -> u64
         ensures { result ≡ self.now.next - 1 }

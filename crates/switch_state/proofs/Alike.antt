@@ -11,12 +11,12 @@ use Rattle.journal_text.specs.declared.record.Placed.{Placed}
 use Rattle.journal_text.specs.declared.record.Rec.{Rec}
 use Rattle.journal_text.specs.declared.record.Rec.TheVariants.{Install, PutBack, Remove, Begin, End}
 use Rattle.opam_names.specs.declared.packages.Pkg.{Pkg}
-use Rattle.owner_map.specs.Owning.{is_of_another, owner_of}
+use Rattle.owner_map.specs.Owning.{is_of_another, is_owned_by, owner_of}
 use Rattle.owner_map.specs.Owning as owning
 use Rattle.path_order.specs.Apart.{meets}
 use Rattle.switch_journal.specs.Applying.{applied, are_few, are_few_paths, are_kept_right, are_removed, begun, can_come, ended, entries_of, has_name, has_pkg, installed, is_another, is_before_all_back, is_entry_with, is_kept_removal, is_named, is_next, is_of, is_owner, is_put_back, is_same_entry, may_stand, next_removal, only_if, own, put_back, removed, with_done, with_package, without_package}
 use Rattle.switch_journal.specs.Contents.{Contents, entry_of}
-use Rattle.switch_journal.specs.Journal.{is_owned_by, removal_of, work_of}
+use Rattle.switch_journal.specs.Journal.{removal_of, work_of}
 use Rattle.switch_journal.specs.Snapshots.{IsSameSwitch}
 use Rattle.switch_journal.specs.declared.request.Done.{Done}
 use Rattle.switch_journal.specs.declared.request.Done.TheVariants as done

@@ -18,7 +18,7 @@ use Rattle.opam_package.specs.Dependencies.{is_edge, is_run_with, names_it}
 use Rattle.opam_package.specs.declared.package.Member.{Member}
 use Rattle.opam_package.specs.declared.package.Need.{Need}
 use Rattle.path_order.specs.Apart.{AreApart, meets}
-use Rattle.owner_map.specs.Owning.{is_of_another, is_same_pkg}
+use Rattle.owner_map.specs.Owning.{is_of_another, is_owned_by, is_same_pkg}
 use Rattle.owner_map.specs.Owning as owning
 use Rattle.owner_map.specs.declared.owned.OwnedPath.{OwnedPath}
 use Rattle.crash_disk.specs.Disks.{Tree}
@@ -26,7 +26,7 @@ use Rattle.crash_disk.specs.Writes as writes
 use Rattle.crash_disk.specs.Writes.{with_writes}
 use Rattle.crash_disk.specs.Effects.{without}
 use Rattle.crash_disk.proofs.Trees.{get_here, get_off}
-use Rattle.switch_journal.specs.Journal.{is_owned_by, removal_of}
+use Rattle.switch_journal.specs.Journal.{removal_of}
 use Rattle.switch_state.specs.Actions.{is_other_member}
 use Rattle.switch_state.specs.Sound.{Agree, EdgesPointBefore, InstalledIsSound, IsForeign, NamesDiffer, PathsAreApart, RunOnEarlier, is_against, member_pkg, member_pkgs, name_of, runs_on}
 use Rattle.switch_state.specs.SoundLaws.{IsUnneeded}
