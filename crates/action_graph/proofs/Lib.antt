@@ -12,3 +12,4 @@ pub mod Affecting
 pub mod Planning
 pub mod Linking
 pub mod PlanLaws
+pub mod Fitness

@@ -34,7 +34,7 @@ step_made members order i step is = by (slice_get order i) refl (sym (slice_get-
     by None at made = absurd cc
     by (Some p) at made = (p, refl, (let e : step_of members p ≡ step = cc in sym e))
 
-keeps : PlansKeepOrder
+pub keeps : PlansKeepOrder
 keeps installed target plan is =
     let order = is.installs.0 in
     let first = needs_first (needs_at target.members) (Comes installed target) order is.installs.1.steps in
@@ -126,6 +126,15 @@ one_plan = record {
 
 -- ---- nothing to do
 
+pub not_called : (installed : List Member) (name : List ℕ) → has_name installed name ≡ false → member_called installed name ≡ None
+not_called installed name off = found_at (has_key name_of name) installed ∙ by (first_place (has_key name_of name) installed) refl
+  where
+    by : (place : Option ℕ) → first_place (has_key name_of name) installed ≡ place → get_at installed place ≡ None
+    by None is = refl
+    by (Some i) is =
+        let found = first_passes (has_key name_of name) installed i is in
+        absurd (true≢false (sym (has_at (has_key name_of name) installed i found.0 found.1 found.2) ∙ off))
+
 module _ (installed : List Member) (target : Target) (same : (name : List ℕ) → same_version (member_called installed name) (member_called target.members name) ≡ true) (none : target.redo ≡ []) where
   not_touched : (name : List ℕ) → is_touched installed target.members target.redo name ≡ false
   not_touched name = ap (λ b. not b || list_any (has_key (λ one. one) name) target.redo) (same name) ∙ ap (list_any (has_key (λ one. one) name)) none
@@ -144,22 +153,13 @@ module _ (installed : List Member) (target : Target) (same : (name : List ℕ) �
       let found = first_passes (has_key name_of (name_of d)) members place.0 place.1 in
       (found.0, found_at (has_key name_of (name_of d)) members ∙ ap (get_at members) place.1 ∙ found.1)
 
-  not_called : (name : List ℕ) → has_name installed name ≡ false → member_called installed name ≡ None
-  not_called name off = found_at (has_key name_of name) installed ∙ by (first_place (has_key name_of name) installed) refl
-    where
-      by : (place : Option ℕ) → first_place (has_key name_of name) installed ≡ place → get_at installed place ≡ None
-      by None is = refl
-      by (Some i) is =
-          let found = first_passes (has_key name_of name) installed i is in
-          absurd (true≢false (sym (has_at (has_key name_of name) installed i found.0 found.1 found.2) ∙ off))
-
   no_comer : (at : ℕ) (o : Option Member) → slice_get target.members at ≡ o → OfName (λ name. IsAffected installed target name ⊎ (has_name installed name ≡ false)) o → ⊥
   no_comer at None is held = held
   no_comer at (Some d) is held = elim held [
     | inl affected ↦ not_affected (name_of d) affected
     | inr off ↦
         (let there = is_called target.members at d is in
-        true≢false (sym (same (name_of d)) ∙ ap (λ o. same_version o (member_called target.members (name_of d))) (not_called (name_of d) off) ∙ ap (same_version None) there.1))
+        true≢false (sym (same (name_of d)) ∙ ap (λ o. same_version o (member_called target.members (name_of d))) (not_called installed (name_of d) off) ∙ ap (same_version None) there.1))
   ]
 
   no_places : (holds : ℕ → Type 0) (xs : List ℕ) → ((p : ℕ) → IsIn xs p → holds p) → ((p : ℕ) → holds p → ⊥) → xs ≡ []

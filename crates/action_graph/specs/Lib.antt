@@ -11,3 +11,4 @@ pub mod Nodes
 pub mod Looking
 pub mod GraphLaws
 pub mod PlanLaws
+pub mod Fitness

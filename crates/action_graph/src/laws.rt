@@ -1,4 +1,5 @@
 // Laws, each proved as a clause of a function that does nothing.
+ghost use Rattle.action_graph.specs.Fitness.{PlansAreFit};
 ghost use Rattle.action_graph.specs.GraphLaws.{OneOrder, OrdersKeepNeeds, ReachedIsLeast};
 ghost use Rattle.action_graph.specs.PlanLaws.{OnePlan, PlansKeepOrder, SameIsDone};
 
@@ -30,4 +31,10 @@ pub fn plan_is_one()
 /// Where each name has the same version in the switch and in the target, and nothing is built once more, nothing is done.
 pub fn same_is_done()
     ensures { SameIsDone }
+{}
+
+/// The plan of a change is fit where an entry and a member of one name and version are the same: what stays is in the target and has
+/// no edge to what leaves or comes, and each need of an install stays or stands before it.
+pub fn plans_are_fit()
+    ensures { PlansAreFit }
 {}

@@ -17,7 +17,8 @@ mod views;
 
 pub use installs::order;
 pub use laws::{
-    needs_come_first, order_is_one, plan_is_one, plans_keep_order, reached_is_least, same_is_done,
+    needs_come_first, order_is_one, plan_is_one, plans_are_fit, plans_keep_order, reached_is_least,
+    same_is_done,
 };
 pub use lookup::are_in_order;
 pub use package_vars::View;
