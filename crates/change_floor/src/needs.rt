@@ -62,7 +62,7 @@ pub(crate) fn next_lacks(plan: &Plan, index: &Index, decided: &[bool]) -> Option
     requires few { length decided.now ≤ length plan.now.removals + length plan.now.installs }
     ensures { length plan.now.removals ≤ length decided.now
         → result ≡ floors.lacking plan.now decided.now
-            (install_needs plan.now (length decided.now - length plan.now.removals)) }
+        (install_needs plan.now (length decided.now - length plan.now.removals)) }
 {
     if decided.len() < plan.removals.len() {
         return None;

@@ -5,6 +5,7 @@
 mod files;
 mod filter_show;
 mod filters;
+mod floors;
 mod installs;
 mod jobs;
 mod lints;
@@ -85,6 +86,9 @@ fn answer(alloc: Global, line: &[u8], world: &mut World) -> Result<Option<String
         return Ok(Some(text));
     }
     if let Some(text) = lints::answer(alloc, call)? {
+        return Ok(Some(text));
+    }
+    if let Some(text) = floors::answer(alloc, call)? {
         return Ok(Some(text));
     }
     if let Some(text) = locks::answer(alloc, call, &world.vars)? {
