@@ -6,3 +6,4 @@ pub mod Readied
 pub mod Closing
 pub mod SoundKept
 pub mod SoundLeft
+pub mod Aparts

@@ -38,7 +38,7 @@ not_any true is = absurd (cc)
 not_any false is = refl
 
 -- a package that can come meets no owned path
-free_of_come : (pkg : Pkg) (files : List Placed) (c : Contents) → can_come pkg files c ≡ true → FreeOf c.owned (paths_of files)
+pub free_of_come : (pkg : Pkg) (files : List Placed) (c : Contents) → can_come pkg files c ≡ true → FreeOf c.owned (paths_of files)
 free_of_come pkg files c can = not_any (list_any (λ path. list_any (meets path) (owning.paths_of c.owned)) (paths_of files)) (and_right (not (has_name pkg.name c)) (not (list_any (λ path. list_any (meets path) (owning.paths_of c.owned)) (paths_of files))) can)
 
 -- what a package that comes asks

@@ -6,13 +6,12 @@ use Rattle.std.specs.declared.option.Option.TheVariants.{None}
 use Rattle.opam_names.specs.declared.packages.Pkg.{Pkg}
 use Rattle.opam_package.specs.Dependencies.{is_edge, is_run_with}
 use Rattle.opam_package.specs.declared.package.Member.{Member}
-use Rattle.path_order.specs.Apart.{AreApart, meets}
-use Rattle.owner_map.specs.Owning as owning
+use Rattle.path_order.specs.Apart.{meets}
 use Rattle.journal_text.specs.Parts.{paths_of}
 use Rattle.journal_text.specs.declared.record.KeptFiles.{KeptFiles}
 use Rattle.journal_text.specs.declared.record.Placed.{Placed}
 use Rattle.crash_disk.specs.Disks.{Tree}
-use Rattle.switch_state.specs.Actions.{Action, CanFollow, Installs, PutsBack, Removes, is_other_member, own_files_after, state_after}
+use Rattle.switch_state.specs.Actions.{Action, CanBeSpelled, CanFollow, Installs, PutsBack, Removes, is_other_member, own_files_after, state_after}
 use Rattle.switch_state.specs.Sound.{InstalledIsSound, IsForeign, Sound, is_against, member_pkg, member_pkgs, runs_on}
 use Rattle.switch_state.specs.State.{SwitchState}
 
@@ -33,11 +32,11 @@ pub record Suits (state : SwitchState) (files : Tree) (member : Member) (placed 
   pub agrees : IsFalse (list_any (λ (m : Member). is_against member.package m.package) state.members)
   pub foreign : (path : List ℕ) → IsForeign state files path → IsFalse (list_any (meets path) (paths_of placed))
 
--- what is installed stays sound with it, where the owned paths still stand apart, as those of a switch do
+-- what is installed stays sound with a member that can come and suits it
 abbrev pub KeepsSound : (Member → List Placed → Action) → Type 0
 KeepsSound comes =
-    (number : ℕ) (member : Member) (placed : List Placed) (state : SwitchState) (files : Tree) → CanFollow number (comes member placed) state → Suits state files member placed
-    → AreApart (owning.paths_of (state_after number (comes member placed) state).owned) → InstalledIsSound state files
+    (number : ℕ) (member : Member) (placed : List Placed) (state : SwitchState) (files : Tree) → CanFollow number (comes member placed) state → CanBeSpelled (comes member placed)
+    → Suits state files member placed → InstalledIsSound state files
     → InstalledIsSound (state_after number (comes member placed) state) (own_files_after (comes member placed) state files)
 
 -- so it is with each install that suits
@@ -55,6 +54,5 @@ IsUnneeded pkg state = IsFalse (list_any (λ (m : Member). is_other_member pkg m
 -- what is installed stays sound without a package that no other entry needs
 abbrev pub RemovalsKeepSound : Type 0
 RemovalsKeepSound =
-    (number : ℕ) (pkg : Pkg) (kept : Option KeptFiles) (state : SwitchState) (files : Tree) → IsUnneeded pkg state
-    → AreApart (owning.paths_of (state_after number (Removes pkg kept) state).owned) → InstalledIsSound state files
+    (number : ℕ) (pkg : Pkg) (kept : Option KeptFiles) (state : SwitchState) (files : Tree) → IsUnneeded pkg state → InstalledIsSound state files
     → InstalledIsSound (state_after number (Removes pkg kept) state) (own_files_after (Removes pkg kept) state files)

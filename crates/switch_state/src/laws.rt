@@ -1,6 +1,8 @@
 // Laws of sound states, each the contract of a function that does nothing.
 ghost use Rattle.switch_state.specs.SoundLaws.{EmptyIsSound, InstallsKeepSound, PutBacksKeepSound, RemovalsKeepSound};
 
+use owner_map::additions_are_met;
+
 /// The empty state is sound, over any files.
 pub fn the_empty_state_is_sound()
     ensures { EmptyIsSound }
@@ -9,12 +11,16 @@ pub fn the_empty_state_is_sound()
 /// What is installed stays sound with an install that suits it.
 pub fn installs_keep_sound()
     ensures { InstallsKeepSound }
-{}
+{
+    additions_are_met();
+}
 
 /// The same where a package is put back.
 pub fn put_backs_keep_sound()
     ensures { PutBacksKeepSound }
-{}
+{
+    additions_are_met();
+}
 
 /// What is installed stays sound without a package that no other entry needs when it runs.
 pub fn removals_keep_sound()
