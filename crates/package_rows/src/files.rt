@@ -9,23 +9,28 @@ use row_script::show::quoted;
 use sqlite_items::Items;
 use std::alloc::Global;
 
-pub fn answer(alloc: Global, call: &Call) -> Result<Option<String>, Fault> {
-    let answer = match (call.name.as_str(), call.words.as_slice()) {
-        ("print_file", []) => print(alloc, &empty_file(alloc)),
-        ("print_file", [name, tree @ ..]) => print_field(alloc, name, tree),
-        ("print_section", [name, label, field, tree @ ..]) => {
-            print_section(alloc, name, label, field, tree)
-        }
-        _ => return Ok(None),
-    };
-    Ok(Some(answer?))
+pub fn answer(alloc: Global, call: &Call) -> Result<String, Fault> {
+    let words = call.words.as_slice();
+    match call.name.as_str() {
+        "print_file" => print_words(alloc, words),
+        "print_section" => print_section(alloc, words),
+        _ => Err(Fault::Unknown),
+    }
+}
+
+fn print_words(alloc: Global, words: &[Word]) -> Result<String, Fault> {
+    match words {
+        [] => print(alloc, &empty_file(alloc)),
+        [name, tree @ ..] => print_field(alloc, name, tree),
+    }
 }
 
 fn print(alloc: Global, file: &File) -> Result<String, Fault> {
     quoted(alloc, print_file(alloc, file)?.as_slice())
 }
 
-fn empty_file(alloc: Global) -> File {
+/// A file with nothing in it.
+pub fn empty_file(alloc: Global) -> File {
     File {
         items: IndexMap::new(alloc),
         places: Items::new(alloc),
@@ -46,13 +51,10 @@ fn print_field(alloc: Global, name: &Word, tree: &[Word]) -> Result<String, Faul
 }
 
 // A file of one section with one field; `-` is no label.
-fn print_section(
-    alloc: Global,
-    name: &Word,
-    label: &Word,
-    field: &Word,
-    tree: &[Word],
-) -> Result<String, Fault> {
+fn print_section(alloc: Global, words: &[Word]) -> Result<String, Fault> {
+    let [name, label, field, tree @ ..] = words else {
+        return Err(Fault::Unknown);
+    };
     let key = Key {
         name: syntax_word(alloc, name.text()?)?,
         section: true,
@@ -70,7 +72,8 @@ fn label_of(alloc: Global, label: &Word) -> Result<Option<Label>, Fault> {
     Ok(Some(Label::from_vec(same(alloc, label)?)))
 }
 
-fn section_of(alloc: Global, field: &Word, tree: &[Word]) -> Result<Item, Fault> {
+/// A section of one field.
+pub fn section_of(alloc: Global, field: &Word, tree: &[Word]) -> Result<Item, Fault> {
     let mut fields = IndexMap::new(alloc);
     let node: Node = read_tree(alloc, tree)?;
     fields.insert(syntax_word(alloc, field.text()?)?, node)?;

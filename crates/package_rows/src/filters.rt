@@ -1,12 +1,12 @@
 // Calls of `opam_filter`, under the variables of the script.
 use crate::filter_show::{push_filter, push_formula, push_reduced, truth_word};
+use crate::spans::show_at;
 use crate::trees::{read_tree, variable};
 use opam_filter::{
     Filter, FilterFault, Formula, Reduced, VarValue, Vars, asked, asked_in, atoms, eval, expand,
     holds, meets, names, read_filter, read_formula, reduce, rises,
 };
 use opam_names::{Name, Pkg, Text};
-use opam_syntax::Span;
 use row_script::fault::Fault;
 use row_script::lexer::Word;
 use row_script::script::Call;
@@ -14,28 +14,63 @@ use row_script::show::{answered, plain, quoted};
 use row_script::values::pkg_of;
 use std::alloc::Global;
 
-pub fn answer(alloc: Global, call: &Call, vars: &mut Vars) -> Result<Option<String>, Fault> {
-    let answer = match (call.name.as_str(), call.words.as_slice()) {
-        ("Vars::empty", []) => empty(alloc, vars),
-        ("Vars::set", [name, value]) => set(alloc, vars, name, value),
-        ("Vars::value", [name]) => value(alloc, vars, name),
-        ("read_filter", tree) => show_filter(alloc, tree),
-        ("Filter::copy", tree) => copy_filter(alloc, tree),
-        ("eval", tree) => evaluate(alloc, tree, vars),
-        ("expand", [text]) => fill_in(alloc, text, vars),
-        ("asked", tree) => ask(alloc, tree),
-        ("asked_in", [text]) => ask_in(alloc, text),
-        ("read_formula", tree) => show_formula(alloc, tree),
-        ("reduce", tree) => show_reduced(alloc, tree, vars),
-        ("Reduced::copy", tree) => copy_reduced(alloc, tree, vars),
-        ("names", tree) => show_kept(alloc, tree, vars),
-        ("atoms", tree) => show_atoms(alloc, tree),
-        ("holds", [set, tree @ ..]) => hold(alloc, set, tree, vars),
-        ("meets", [pkg, tree @ ..]) => meet(alloc, pkg, tree, vars),
-        ("rises", [set]) => rise(alloc, set),
-        _ => return Ok(None),
-    };
-    Ok(Some(answer?))
+pub fn answer(alloc: Global, call: &Call, vars: &mut Vars) -> Result<String, Fault> {
+    let name = call.name.as_str();
+    let words = call.words.as_slice();
+    match name {
+        "read_filter" => show_filter(alloc, words),
+        "Filter::copy" => copy_filter(alloc, words),
+        "eval" => evaluate(alloc, words, vars),
+        "asked" => ask(alloc, words),
+        "read_formula" => show_formula(alloc, words),
+        "reduce" => show_reduced(alloc, words, vars),
+        "Reduced::copy" => copy_reduced(alloc, words, vars),
+        "names" => show_kept(alloc, words, vars),
+        "atoms" => show_atoms(alloc, words),
+        "holds" => hold(alloc, words, vars),
+        "meets" => meet(alloc, words, vars),
+        _ => answer_few(alloc, name, words, vars),
+    }
+}
+
+// Calls with up to two words.
+fn answer_few(alloc: Global, name: &str, words: &[Word], vars: &mut Vars) -> Result<String, Fault> {
+    match words {
+        [] => answer_bare(alloc, name, vars),
+        [word] => answer_word(alloc, name, word, vars),
+        [variable, value] => answer_pair(alloc, name, variable, value, vars),
+        _ => Err(Fault::Unknown),
+    }
+}
+
+fn answer_bare(alloc: Global, name: &str, vars: &mut Vars) -> Result<String, Fault> {
+    match name {
+        "Vars::empty" => empty(alloc, vars),
+        _ => Err(Fault::Unknown),
+    }
+}
+
+fn answer_word(alloc: Global, name: &str, word: &Word, vars: &Vars) -> Result<String, Fault> {
+    match name {
+        "Vars::value" => value(alloc, vars, word),
+        "expand" => fill_in(alloc, word, vars),
+        "asked_in" => ask_in(alloc, word),
+        "rises" => rise(alloc, word),
+        _ => Err(Fault::Unknown),
+    }
+}
+
+fn answer_pair(
+    alloc: Global,
+    name: &str,
+    variable: &Word,
+    value: &Word,
+    vars: &mut Vars,
+) -> Result<String, Fault> {
+    match name {
+        "Vars::set" => set(alloc, vars, variable, value),
+        _ => Err(Fault::Unknown),
+    }
 }
 
 fn empty(alloc: Global, vars: &mut Vars) -> Result<String, Fault> {
@@ -68,16 +103,14 @@ pub fn value(alloc: Global, vars: &Vars, name: &Word) -> Result<String, Fault> {
 }
 
 pub fn faulty(alloc: Global, fault: FilterFault) -> Result<String, Fault> {
-    let (what, span) = match fault {
-        FilterFault::NotAFilter { span } => ("no filter", span),
-        FilterFault::NotAFormula { span } => ("no formula", span),
-        FilterFault::NotText { span } => ("no text", span),
-        FilterFault::BadName { span } => ("no name", span),
-        FilterFault::NegatedVersion { span } => ("a negated version", span),
-        FilterFault::Memory => return Err(Fault::Memory),
-    };
-    let Span { start, end } = span;
-    Ok(format!(in alloc; "{what} at {start}-{end}")?)
+    match fault {
+        FilterFault::NotAFilter { span } => show_at(alloc, "no filter", span),
+        FilterFault::NotAFormula { span } => show_at(alloc, "no formula", span),
+        FilterFault::NotText { span } => show_at(alloc, "no text", span),
+        FilterFault::BadName { span } => show_at(alloc, "no name", span),
+        FilterFault::NegatedVersion { span } => show_at(alloc, "a negated version", span),
+        FilterFault::Memory => Err(Fault::Memory),
+    }
 }
 
 // The filter that the words write.
@@ -215,7 +248,10 @@ fn rise(alloc: Global, set: &Word) -> Result<String, Fault> {
     answered(alloc, rises(set_of(alloc, set)?.as_slice()))
 }
 
-fn hold(alloc: Global, set: &Word, tree: &[Word], vars: &Vars) -> Result<String, Fault> {
+fn hold(alloc: Global, words: &[Word], vars: &Vars) -> Result<String, Fault> {
+    let [set, tree @ ..] = words else {
+        return Err(Fault::Unknown);
+    };
     let reduced = reduced_of(alloc, tree, vars)?;
     let set = set_of(alloc, set)?;
     if !rises(set.as_slice()) {
@@ -224,7 +260,10 @@ fn hold(alloc: Global, set: &Word, tree: &[Word], vars: &Vars) -> Result<String,
     answered(alloc, holds(&reduced, set.as_slice()))
 }
 
-fn meet(alloc: Global, pkg: &Word, tree: &[Word], vars: &Vars) -> Result<String, Fault> {
+fn meet(alloc: Global, words: &[Word], vars: &Vars) -> Result<String, Fault> {
+    let [pkg, tree @ ..] = words else {
+        return Err(Fault::Unknown);
+    };
     let reduced = reduced_of(alloc, tree, vars)?;
     answered(alloc, meets(&reduced, &pkg_of(alloc, pkg)?))
 }

@@ -14,23 +14,20 @@ use row_script::script::Call;
 use row_script::show::plain;
 use std::alloc::Global;
 
-pub fn answer(alloc: Global, call: &Call) -> Result<Option<String>, Fault> {
+pub fn answer(alloc: Global, call: &Call) -> Result<String, Fault> {
     match call.name.as_str() {
         "Floor" => show_floor(alloc, call.words.as_slice()),
-        _ => Ok(None),
+        _ => Err(Fault::Unknown),
     }
 }
 
-fn show_floor(alloc: Global, words: &[Word]) -> Result<Option<String>, Fault> {
+fn show_floor(alloc: Global, words: &[Word]) -> Result<String, Fault> {
     let [workers, removals, installs, missing, events @ ..] = words else {
-        return Ok(None);
+        return Err(Fault::Unknown);
     };
     let plan = plan_of(alloc, removals, installs, missing)?;
     let mut floor = floor_over(alloc, &plan, place_of(workers.text()?)?)?;
-    match answer_all(alloc, &mut floor, events) {
-        Ok(text) => Ok(Some(text)),
-        Err(fault) => Err(fault),
-    }
+    answer_all(alloc, &mut floor, events)
 }
 
 fn place_of(text: &str) -> Result<u32, Fault> {
@@ -124,9 +121,19 @@ fn answer_all(alloc: Global, floor: &mut Floor, events: &[Word]) -> Result<Strin
         if !text.is_empty() {
             text.push_str(", ")?;
         }
-        text.push_str(answer_event(alloc, floor, event.text()?)?.as_str())?;
+        push_event(alloc, &mut text, floor, event)?;
     }
     Ok(text)
+}
+
+fn push_event(
+    alloc: Global,
+    text: &mut String,
+    floor: &mut Floor,
+    event: &Word,
+) -> Result<(), Fault> {
+    let answer = answer_event(alloc, floor, event.text()?)?;
+    Ok(text.push_str(answer.as_str())?)
 }
 
 // `start` starts the next job, `good` and `bad` decide the next action.

@@ -1,6 +1,7 @@
 // Calls of `install_sections`. Up to eight files are shown, of more their number.
+use crate::spans::{show_at, show_doubled};
 use install_sections::{InstallFault, Layout, Placement, Section, read_install};
-use opam_syntax::{FILE_LIMIT, Span, SyntaxFault};
+use opam_syntax::{FILE_LIMIT, SyntaxFault};
 use row_script::fault::Fault;
 use row_script::lexer::Word;
 use row_script::script::Call;
@@ -11,29 +12,41 @@ use std::alloc::Global;
 /// More files are counted.
 const SHOWN: usize = 8;
 
-pub fn answer(alloc: Global, call: &Call) -> Result<Option<String>, Fault> {
-    match (call.name.as_str(), call.words.as_slice()) {
-        ("Section::named", [name]) => Ok(Some(show_section(alloc, name)?)),
-        ("read_install", [name, text]) => Ok(Some(read(alloc, name, text.bytes.as_slice())?)),
-        _ => Ok(None),
+pub fn answer(alloc: Global, call: &Call) -> Result<String, Fault> {
+    let words = call.words.as_slice();
+    match call.name.as_str() {
+        "Section::named" => show_section(alloc, words),
+        "read_install" => read(alloc, words),
+        _ => Err(Fault::Unknown),
     }
 }
 
-fn show_section(alloc: Global, name: &Word) -> Result<String, Fault> {
+fn show_section(alloc: Global, words: &[Word]) -> Result<String, Fault> {
+    let [name] = words else {
+        return Err(Fault::Unknown);
+    };
     let Some(section) = Section::named(name.text()?) else {
         return plain(alloc, "none");
     };
     let folder = section.folder.as_str();
-    let layout = match section.layout {
-        Layout::Own => "own",
-        Layout::Shared => "shared",
-        Layout::Pages => "pages",
-    };
+    let layout = layout_word(section.layout);
     let exec = if section.exec { " executable" } else { "" };
     Ok(format!(in alloc; "{folder} {layout}{exec}")?)
 }
 
-fn read(alloc: Global, name: &Word, bytes: &[u8]) -> Result<String, Fault> {
+fn layout_word(layout: Layout) -> &'static str {
+    match layout {
+        Layout::Own => "own",
+        Layout::Shared => "shared",
+        Layout::Pages => "pages",
+    }
+}
+
+fn read(alloc: Global, words: &[Word]) -> Result<String, Fault> {
+    let [name, text] = words else {
+        return Err(Fault::Unknown);
+    };
+    let bytes = text.bytes.as_slice();
     if bytes.len() > FILE_LIMIT {
         return Err(Fault::Line("the text is too long"));
     }
@@ -76,9 +89,7 @@ fn push_file(text: &mut String, placement: &Placement) -> Result<(), Fault> {
 
 fn show_fault(alloc: Global, fault: InstallFault) -> Result<String, Fault> {
     match fault {
-        InstallFault::Syntax(SyntaxFault::Doubled { at }) => {
-            Ok(format!(in alloc; "doubled at {at}")?)
-        }
+        InstallFault::Syntax(SyntaxFault::Doubled { at }) => show_doubled(alloc, at),
         InstallFault::Syntax(_) => plain(alloc, "no file"),
         InstallFault::UnknownSection { span } => show_at(alloc, "unknown section", span),
         InstallFault::Misc { span } => show_at(alloc, "misc", span),
@@ -87,9 +98,4 @@ fn show_fault(alloc: Global, fault: InstallFault) -> Result<String, Fault> {
         InstallFault::TooMany { span } => show_at(alloc, "too many", span),
         InstallFault::Memory => Err(Fault::Memory),
     }
-}
-
-fn show_at(alloc: Global, what: &str, span: Span) -> Result<String, Fault> {
-    let (start, end) = (span.start, span.end);
-    Ok(format!(in alloc; "{what} at {start}-{end}")?)
 }

@@ -13,14 +13,19 @@ use row_script::show::{plain, push_quoted, quoted};
 use row_script::values::pkg_of;
 use std::alloc::Global;
 
-pub fn answer(alloc: Global, call: &Call, facts: &Facts) -> Result<Option<String>, Fault> {
-    match (call.name.as_str(), call.words.as_slice()) {
-        ("job_for", [part, view, pkg, text, exports @ ..]) => {
-            let job = made(alloc, facts, view, pkg, text, exports)?;
-            Ok(Some(part_of(alloc, &job, part)?))
-        }
-        _ => Ok(None),
+pub fn answer(alloc: Global, call: &Call, facts: &Facts) -> Result<String, Fault> {
+    match call.name.as_str() {
+        "job_for" => show_job(alloc, call.words.as_slice(), facts),
+        _ => Err(Fault::Unknown),
     }
+}
+
+fn show_job(alloc: Global, words: &[Word], facts: &Facts) -> Result<String, Fault> {
+    let [part, view, pkg, text, exports @ ..] = words else {
+        return Err(Fault::Unknown);
+    };
+    let job = made(alloc, facts, view, pkg, text, exports)?;
+    part_of(alloc, &job, part)
 }
 
 fn made(
@@ -32,9 +37,14 @@ fn made(
     exports: &[Word],
 ) -> Result<Job, Fault> {
     let built = package(alloc, facts, pkg, text)?;
-    let members = Items::from_vec(set_of(alloc, view)?);
+    let view = view_of(alloc, view)?;
     let exports = exports_of(alloc, facts, exports)?;
-    Ok(job_for(alloc, &built, &View { members }, exports.as_slice(), facts)?)
+    Ok(job_for(alloc, &built, &view, exports.as_slice(), facts)?)
+}
+
+fn view_of(alloc: Global, set: &Word) -> Result<View, Fault> {
+    let members = Items::from_vec(set_of(alloc, set)?);
+    Ok(View { members })
 }
 
 fn package(alloc: Global, facts: &Facts, pkg: &Word, text: &Word) -> Result<Package, Fault> {
@@ -42,7 +52,9 @@ fn package(alloc: Global, facts: &Facts, pkg: &Word, text: &Word) -> Result<Pack
     if bytes.len() > OPAM_LIMIT {
         return Err(Fault::Line("the text is too long"));
     }
-    match read_package(alloc, bytes, &pkg_of(alloc, pkg)?, &globals(alloc, facts)?) {
+    let pkg = pkg_of(alloc, pkg)?;
+    let vars = globals(alloc, facts)?;
+    match read_package(alloc, bytes, &pkg, &vars) {
         Ok(package) => Ok(package),
         Err(PackageFault::Memory) => Err(Fault::Memory),
         Err(_) => Err(Fault::Line("the file has a fault")),
@@ -64,14 +76,18 @@ fn exports_of(alloc: Global, facts: &Facts, words: &[Word]) -> Result<Vec<Export
         let [pkg, text, later @ ..] = left else {
             return Ok(exports);
         };
-        let package = package(alloc, facts, pkg, text)?;
-        exports.push(Export {
-            pkg: package.pkg.copy(alloc)?,
-            updates: updates_of(alloc, &package)?,
-        })?;
+        exports.push(export_of(alloc, facts, pkg, text)?)?;
         left = later;
     }
     Ok(exports)
+}
+
+fn export_of(alloc: Global, facts: &Facts, pkg: &Word, text: &Word) -> Result<Export, Fault> {
+    let package = package(alloc, facts, pkg, text)?;
+    Ok(Export {
+        pkg: package.pkg.copy(alloc)?,
+        updates: updates_of(alloc, &package)?,
+    })
 }
 
 fn part_of(alloc: Global, job: &Job, part: &Word) -> Result<String, Fault> {
@@ -81,14 +97,18 @@ fn part_of(alloc: Global, job: &Job, part: &Word) -> Result<String, Fault> {
     }
     match part {
         "package" => Ok(job.pkg.print(alloc)?),
-        "source" => match &job.source {
-            None => plain(alloc, "none"),
-            Some(folder) => quoted(alloc, folder.as_str().as_bytes()),
-        },
+        "source" => show_source(alloc, &job.source),
         "commands" => show_commands(alloc, job.commands.as_slice()),
         "names" => show_names(alloc, job.env.as_slice()),
         "env" => show_env(alloc, job.env.as_slice()),
         _ => Err(Fault::Line("a job has no such part")),
+    }
+}
+
+fn show_source(alloc: Global, source: &Option<Text>) -> Result<String, Fault> {
+    match source {
+        None => plain(alloc, "none"),
+        Some(folder) => quoted(alloc, folder.as_str().as_bytes()),
     }
 }
 
@@ -112,12 +132,16 @@ fn push_words(text: &mut String, words: &[Text]) -> Result<(), Fault> {
 fn show_commands(alloc: Global, commands: &[Items<Text>]) -> Result<String, Fault> {
     let mut text = String::from_str(alloc, "(")?;
     for words in commands {
-        text.push_str(" (")?;
-        push_words(&mut text, words.as_slice())?;
-        text.push_str(" )")?;
+        push_command(&mut text, words.as_slice())?;
     }
     text.push_str(" )")?;
     Ok(text)
+}
+
+fn push_command(text: &mut String, words: &[Text]) -> Result<(), Fault> {
+    text.push_str(" (")?;
+    push_words(text, words)?;
+    Ok(text.push_str(" )")?)
 }
 
 fn show_names(alloc: Global, env: &[(Text, Text)]) -> Result<String, Fault> {
@@ -134,12 +158,16 @@ fn show_names(alloc: Global, env: &[(Text, Text)]) -> Result<String, Fault> {
 fn show_env(alloc: Global, env: &[(Text, Text)]) -> Result<String, Fault> {
     let mut text = String::new(alloc);
     for (name, value) in env {
-        if !text.is_empty() {
-            text.push_str(" ")?;
-        }
-        text.push_str(name.as_str())?;
-        text.push_str("=")?;
-        push_quoted(&mut text, value.as_str().as_bytes())?;
+        push_variable(&mut text, name.as_str(), value.as_str())?;
     }
     Ok(text)
+}
+
+fn push_variable(text: &mut String, name: &str, value: &str) -> Result<(), Fault> {
+    if !text.is_empty() {
+        text.push_str(" ")?;
+    }
+    text.push_str(name)?;
+    text.push_str("=")?;
+    push_quoted(text, value.as_bytes())
 }

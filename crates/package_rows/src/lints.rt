@@ -10,13 +10,21 @@ use std::alloc::Global;
 /// More findings are counted.
 const SHOWN: usize = 8;
 
-pub fn answer(alloc: Global, call: &Call) -> Result<Option<String>, Fault> {
-    match (call.name.as_str(), call.words.as_slice()) {
-        ("lint", [text]) => Ok(Some(show(alloc, found(alloc, text)?.as_slice())?)),
-        ("findings_text", [file, text]) => Ok(Some(lines(alloc, file, text)?)),
-        ("errors", [text]) => Ok(Some(errors(alloc, found(alloc, text)?.as_slice())?)),
-        _ => Ok(None),
+pub fn answer(alloc: Global, call: &Call) -> Result<String, Fault> {
+    let words = call.words.as_slice();
+    match call.name.as_str() {
+        "lint" => show(alloc, words),
+        "findings_text" => lines(alloc, words),
+        "errors" => errors(alloc, words),
+        _ => Err(Fault::Unknown),
     }
+}
+
+fn show(alloc: Global, words: &[Word]) -> Result<String, Fault> {
+    let [text] = words else {
+        return Err(Fault::Unknown);
+    };
+    show_findings(alloc, found(alloc, text)?.as_slice())
 }
 
 fn found(alloc: Global, text: &Word) -> Result<Vec<Finding>, Fault> {
@@ -27,7 +35,7 @@ fn found(alloc: Global, text: &Word) -> Result<Vec<Finding>, Fault> {
     Ok(lint(alloc, bytes)?)
 }
 
-fn show(alloc: Global, findings: &[Finding]) -> Result<String, Fault> {
+fn show_findings(alloc: Global, findings: &[Finding]) -> Result<String, Fault> {
     let count = findings.len();
     if count > SHOWN {
         return Ok(format!(in alloc; "{count} findings")?);
@@ -55,13 +63,23 @@ fn push_finding(text: &mut String, finding: &Finding) -> Result<(), Fault> {
     Ok(())
 }
 
-fn lines(alloc: Global, file: &Word, text: &Word) -> Result<String, Fault> {
+fn lines(alloc: Global, words: &[Word]) -> Result<String, Fault> {
+    let [file, text] = words else {
+        return Err(Fault::Unknown);
+    };
     let findings = found(alloc, text)?;
     let lines = findings_text(alloc, file.text()?, findings.as_slice())?;
     quoted(alloc, lines.as_slice())
 }
 
-fn errors(alloc: Global, findings: &[Finding]) -> Result<String, Fault> {
+fn errors(alloc: Global, words: &[Word]) -> Result<String, Fault> {
+    let [text] = words else {
+        return Err(Fault::Unknown);
+    };
+    count_errors(alloc, found(alloc, text)?.as_slice())
+}
+
+fn count_errors(alloc: Global, findings: &[Finding]) -> Result<String, Fault> {
     let count = findings.iter().filter(|finding| finding.is_error()).count();
     Ok(format!(in alloc; "{count}")?)
 }

@@ -1,22 +1,27 @@
 // Calls of `lock_check`. What a lock binds is shown by its packages.
 use crate::filters::faulty;
+use crate::spans::{show_at, show_doubled};
 use lock_check::{Lock, LockFault, read_lock};
 use opam_filter::Vars;
-use opam_syntax::{FILE_LIMIT, Span, SyntaxFault};
+use opam_names::Pkg;
+use opam_syntax::{FILE_LIMIT, SyntaxFault};
 use row_script::fault::Fault;
 use row_script::lexer::Word;
 use row_script::script::Call;
 use row_script::show::plain;
 use std::alloc::Global;
 
-pub fn answer(alloc: Global, call: &Call, vars: &Vars) -> Result<Option<String>, Fault> {
-    match (call.name.as_str(), call.words.as_slice()) {
-        ("read_lock", [text]) => Ok(Some(read(alloc, text, vars)?)),
-        _ => Ok(None),
+pub fn answer(alloc: Global, call: &Call, vars: &Vars) -> Result<String, Fault> {
+    match call.name.as_str() {
+        "read_lock" => read(alloc, call.words.as_slice(), vars),
+        _ => Err(Fault::Unknown),
     }
 }
 
-fn read(alloc: Global, text: &Word, vars: &Vars) -> Result<String, Fault> {
+fn read(alloc: Global, words: &[Word], vars: &Vars) -> Result<String, Fault> {
+    let [text] = words else {
+        return Err(Fault::Unknown);
+    };
     let bytes = text.bytes.as_slice();
     if bytes.len() > FILE_LIMIT {
         return Err(Fault::Line("the text is too long"));
@@ -30,11 +35,7 @@ fn read(alloc: Global, text: &Word, vars: &Vars) -> Result<String, Fault> {
 fn show_lock(alloc: Global, lock: &Lock) -> Result<String, Fault> {
     let mut text = String::new(alloc);
     for pkg in lock.bound.as_slice() {
-        let between = if text.is_empty() { "" } else { "," };
-        text.push_str(between)?;
-        text.push_str(pkg.name.as_str())?;
-        text.push_str(".")?;
-        text.push_str(pkg.version.as_str())?;
+        push_pkg(&mut text, pkg)?;
     }
     if text.is_empty() {
         text.push_str("nothing")?;
@@ -42,17 +43,21 @@ fn show_lock(alloc: Global, lock: &Lock) -> Result<String, Fault> {
     Ok(text)
 }
 
+fn push_pkg(text: &mut String, pkg: &Pkg) -> Result<(), Fault> {
+    let between = if text.is_empty() { "" } else { "," };
+    text.push_str(between)?;
+    text.push_str(pkg.name.as_str())?;
+    text.push_str(".")?;
+    Ok(text.push_str(pkg.version.as_str())?)
+}
+
 fn refused(alloc: Global, fault: LockFault) -> Result<String, Fault> {
-    let (what, span) = match fault {
-        LockFault::Syntax(SyntaxFault::Doubled { at }) => {
-            return Ok(format!(in alloc; "doubled at {at}")?);
-        }
-        LockFault::Syntax(_) => return plain(alloc, "no file"),
-        LockFault::Filter(fault) => return faulty(alloc, fault),
-        LockFault::Unbound { span } => ("unbound", span),
-        LockFault::Twice { span } => ("twice", span),
-        LockFault::Memory => return Err(Fault::Memory),
-    };
-    let Span { start, end } = span;
-    Ok(format!(in alloc; "{what} at {start}-{end}")?)
+    match fault {
+        LockFault::Syntax(SyntaxFault::Doubled { at }) => show_doubled(alloc, at),
+        LockFault::Syntax(_) => plain(alloc, "no file"),
+        LockFault::Filter(fault) => faulty(alloc, fault),
+        LockFault::Unbound { span } => show_at(alloc, "unbound", span),
+        LockFault::Twice { span } => show_at(alloc, "twice", span),
+        LockFault::Memory => Err(Fault::Memory),
+    }
 }

@@ -1,17 +1,19 @@
 // Calls of `opam_package`. The items of a file stand between `;`: a field as its name and its value, a section as its name, `{`
 // and perhaps a field.
+use crate::files::{empty_file, section_of};
 use crate::filter_show::push_reduced;
 use crate::filters::{faulty, set_of};
 use crate::package_show::{push_command, push_need, push_update};
+use crate::spans::{show_at, show_doubled};
 use crate::trees::{read_tree, syntax_word};
 use indexmap::IndexMap;
 use opam_filter::{Reduced, Vars};
-use opam_names::{Items, Name, Text};
+use opam_names::{Name, Pkg, Text};
 use opam_package::{
     Command, EnvUpdate, Need, OPAM_LIMIT, Package, PackageFault, edges, forbids, needs, package_of,
     read_package,
 };
-use opam_syntax::{File, Item, Key, Span, SyntaxFault};
+use opam_syntax::{File, Item, Key, SyntaxFault};
 use row_script::fault::Fault;
 use row_script::lexer::Word;
 use row_script::script::Call;
@@ -19,17 +21,19 @@ use row_script::show::{answered, plain, push_quoted, quoted};
 use row_script::values::pkg_of;
 use std::alloc::Global;
 
-pub fn answer(alloc: Global, call: &Call, vars: &Vars) -> Result<Option<String>, Fault> {
-    let answer = match (call.name.as_str(), call.words.as_slice()) {
-        ("package_of", [pkg, part, items @ ..]) => show(alloc, pkg, part, items, vars),
-        ("Package::copy", [pkg, part, items @ ..]) => show_copy(alloc, pkg, part, items, vars),
-        ("read_package", [pkg, part, text]) => read(alloc, pkg, part, text, vars),
-        ("edges", [set, pkg, items @ ..]) => show_edges(alloc, set, pkg, items, vars),
-        ("needs", [set, pkg, items @ ..]) => show_needs(alloc, set, pkg, items, vars),
-        ("forbids", [other, pkg, items @ ..]) => forbid(alloc, other, pkg, items, vars),
-        _ => return Ok(None),
+pub fn answer(alloc: Global, call: &Call, vars: &Vars) -> Result<String, Fault> {
+    let [one, other, words @ ..] = call.words.as_slice() else {
+        return Err(Fault::Unknown);
     };
-    Ok(Some(answer?))
+    match call.name.as_str() {
+        "package_of" => show(alloc, one, other, words, vars),
+        "Package::copy" => show_copy(alloc, one, other, words, vars),
+        "read_package" => read(alloc, one, other, words, vars),
+        "edges" => show_edges(alloc, one, other, words, vars),
+        "needs" => show_needs(alloc, one, other, words, vars),
+        "forbids" => forbid(alloc, one, other, words, vars),
+        _ => Err(Fault::Unknown),
+    }
 }
 
 // The words up to the next `;`, and those after it.
@@ -47,16 +51,10 @@ fn first_item(words: &[Word]) -> (&[Word], &[Word]) {
 }
 
 fn add_item(alloc: Global, file: &mut File, words: &[Word]) -> Result<(), Fault> {
-    let (name, item) = match words {
-        [name, open] if open.is("{") => (name, Item::Section(IndexMap::new(alloc))),
-        [name, open, field, tree @ ..] if open.is("{") => {
-            let mut fields = IndexMap::new(alloc);
-            fields.insert(syntax_word(alloc, field.text()?)?, read_tree(alloc, tree)?)?;
-            (name, Item::Section(fields))
-        }
-        [name, tree @ ..] => (name, Item::Field(read_tree(alloc, tree)?)),
-        [] => return Err(Fault::Line("an item has no name")),
+    let [name, words @ ..] = words else {
+        return Err(Fault::Line("an item has no name"));
     };
+    let item = item_of(alloc, words)?;
     let key = Key {
         name: syntax_word(alloc, name.text()?)?,
         section: matches!(item, Item::Section(_)),
@@ -66,11 +64,16 @@ fn add_item(alloc: Global, file: &mut File, words: &[Word]) -> Result<(), Fault>
     Ok(())
 }
 
+fn item_of(alloc: Global, words: &[Word]) -> Result<Item, Fault> {
+    match words {
+        [open] if open.is("{") => Ok(Item::Section(IndexMap::new(alloc))),
+        [open, field, tree @ ..] if open.is("{") => section_of(alloc, field, tree),
+        _ => Ok(Item::Field(read_tree(alloc, words)?)),
+    }
+}
+
 fn file_of(alloc: Global, words: &[Word]) -> Result<File, Fault> {
-    let mut file = File {
-        items: IndexMap::new(alloc),
-        places: sqlite_items::Items::new(alloc),
-    };
+    let mut file = empty_file(alloc);
     let mut left = words;
     for _ in words {
         if left.is_empty() {
@@ -90,7 +93,8 @@ fn package(
     vars: &Vars,
 ) -> Result<Result<Package, PackageFault>, Fault> {
     let pkg = pkg_of(alloc, pkg)?;
-    Ok(package_of(alloc, &file_of(alloc, items)?, &pkg, vars))
+    let file = file_of(alloc, items)?;
+    Ok(package_of(alloc, &file, &pkg, vars))
 }
 
 // A package without a fault.
@@ -116,7 +120,16 @@ fn show(
 }
 
 // The same of the text of an opam file.
-fn read(alloc: Global, pkg: &Word, part: &Word, text: &Word, vars: &Vars) -> Result<String, Fault> {
+fn read(
+    alloc: Global,
+    pkg: &Word,
+    part: &Word,
+    words: &[Word],
+    vars: &Vars,
+) -> Result<String, Fault> {
+    let [text] = words else {
+        return Err(Fault::Unknown);
+    };
     let bytes = text.bytes.as_slice();
     if bytes.len() > OPAM_LIMIT {
         return Err(Fault::Line("the text is too long"));
@@ -134,29 +147,30 @@ fn show_copy(
     items: &[Word],
     vars: &Vars,
 ) -> Result<String, Fault> {
-    let copy = sound(alloc, pkg, items, vars)?.copy(alloc)?;
+    let package = sound(alloc, pkg, items, vars)?;
+    copied_part(alloc, &package, part)
+}
+
+fn copied_part(alloc: Global, package: &Package, part: &Word) -> Result<String, Fault> {
+    let copy = package.copy(alloc)?;
     part_of(alloc, &copy, part)
 }
 
 /// Why a file is none of a package.
 pub fn refused(alloc: Global, fault: PackageFault) -> Result<String, Fault> {
-    let (what, span) = match fault {
-        PackageFault::Filter(fault) => return faulty(alloc, fault),
-        PackageFault::WrongKind { span } => ("the wrong kind", span),
-        PackageFault::NotText { span } => ("no text", span),
-        PackageFault::Mismatch { span } => ("another package", span),
-        PackageFault::OpamVersion { span } => ("another format", span),
-        PackageFault::TooMany { span } => ("too many", span),
-        PackageFault::EnvOperator { span } => ("no update", span),
-        PackageFault::Unsafe { span } => ("unsafe", span),
-        PackageFault::Syntax(SyntaxFault::Doubled { at }) => {
-            return Ok(format!(in alloc; "doubled at {at}")?);
-        }
-        PackageFault::Syntax(_) => return plain(alloc, "no file"),
-        PackageFault::Memory => return Err(Fault::Memory),
-    };
-    let Span { start, end } = span;
-    Ok(format!(in alloc; "{what} at {start}-{end}")?)
+    match fault {
+        PackageFault::Filter(fault) => faulty(alloc, fault),
+        PackageFault::WrongKind { span } => show_at(alloc, "the wrong kind", span),
+        PackageFault::NotText { span } => show_at(alloc, "no text", span),
+        PackageFault::Mismatch { span } => show_at(alloc, "another package", span),
+        PackageFault::OpamVersion { span } => show_at(alloc, "another format", span),
+        PackageFault::TooMany { span } => show_at(alloc, "too many", span),
+        PackageFault::EnvOperator { span } => show_at(alloc, "no update", span),
+        PackageFault::Unsafe { span } => show_at(alloc, "unsafe", span),
+        PackageFault::Syntax(SyntaxFault::Doubled { at }) => show_doubled(alloc, at),
+        PackageFault::Syntax(_) => plain(alloc, "no file"),
+        PackageFault::Memory => Err(Fault::Memory),
+    }
 }
 
 /// A part of what a file says.
@@ -240,9 +254,9 @@ fn all_updates(alloc: Global, updates: &[EnvUpdate]) -> Result<String, Fault> {
     Ok(shown)
 }
 
-fn all_names(alloc: Global, names: &Items<Name>) -> Result<String, Fault> {
+fn all_names(alloc: Global, names: &[Name]) -> Result<String, Fault> {
     let mut shown = plain(alloc, "[")?;
-    for name in names.as_slice() {
+    for name in names {
         shown.push_str(" ")?;
         shown.push_str(name.as_str())?;
     }
@@ -258,10 +272,13 @@ fn show_edges(
     vars: &Vars,
 ) -> Result<String, Fault> {
     let package = sound(alloc, pkg, items, vars)?;
-    all_names(
-        alloc,
-        &edges(alloc, &package, set_of(alloc, set)?.as_slice())?,
-    )
+    let set = set_of(alloc, set)?;
+    edges_of(alloc, &package, set.as_slice())
+}
+
+fn edges_of(alloc: Global, package: &Package, set: &[Pkg]) -> Result<String, Fault> {
+    let found = edges(alloc, package, set)?;
+    all_names(alloc, found.as_slice())
 }
 
 fn show_needs(
@@ -272,10 +289,13 @@ fn show_needs(
     vars: &Vars,
 ) -> Result<String, Fault> {
     let package = sound(alloc, pkg, items, vars)?;
-    all_names(
-        alloc,
-        &needs(alloc, &package, set_of(alloc, set)?.as_slice())?,
-    )
+    let set = set_of(alloc, set)?;
+    needs_of(alloc, &package, set.as_slice())
+}
+
+fn needs_of(alloc: Global, package: &Package, set: &[Pkg]) -> Result<String, Fault> {
+    let found = needs(alloc, package, set)?;
+    all_names(alloc, found.as_slice())
 }
 
 fn forbid(

@@ -1,53 +1,77 @@
 // Calls of `read_file`, of a file's `field`, and of `text_of`. A file is shown by its items, each with its place, and a value as `print_file` takes it: after its
 // parts, and with the place where it stands, as `x @3-4`. Of faults only a doubled name is told with its place.
+use crate::spans::show_doubled;
+use indexmap::IndexMap;
 use opam_syntax::{
     EnvOp, FILE_LIMIT, File, Item, Key, Node, RelOp, Span, SyntaxFault, Value, Var, read_file,
     text_of,
 };
 use row_script::fault::Fault;
+use row_script::lexer::Word;
 use row_script::script::Call;
 use row_script::show::{plain, push_quoted, quoted};
 use std::alloc::Global;
 
-pub fn answer(alloc: Global, call: &Call) -> Result<Option<String>, Fault> {
-    match (call.name.as_str(), call.words.as_slice()) {
-        ("read_file", [text]) => Ok(Some(read(alloc, text.bytes.as_slice())?)),
-        ("field", [text, name]) => Ok(Some(field(alloc, text.bytes.as_slice(), name.text()?)?)),
-        ("text_of", [text, start, end]) => {
-            Ok(Some(text_between(alloc, text.bytes.as_slice(), start.number()?, end.number()?)?))
-        }
-        _ => Ok(None),
+pub fn answer(alloc: Global, call: &Call) -> Result<String, Fault> {
+    let words = call.words.as_slice();
+    match call.name.as_str() {
+        "read_file" => read(alloc, words),
+        "field" => field(alloc, words),
+        "text_of" => show_text(alloc, words),
+        _ => Err(Fault::Unknown),
     }
 }
 
-fn read(alloc: Global, bytes: &[u8]) -> Result<String, Fault> {
+fn read(alloc: Global, words: &[Word]) -> Result<String, Fault> {
+    let [text] = words else {
+        return Err(Fault::Unknown);
+    };
+    let bytes = text.bytes.as_slice();
     if bytes.len() > FILE_LIMIT {
         return Err(Fault::Line("the text is too long"));
     }
     match read_file(alloc, bytes) {
         Ok(file) => show_file(alloc, &file),
-        Err(SyntaxFault::Doubled { at }) => Ok(format!(in alloc; "doubled at {at}")?),
+        Err(SyntaxFault::Doubled { at }) => show_doubled(alloc, at),
         Err(SyntaxFault::Memory) => Err(Fault::Memory),
         Err(_) => plain(alloc, "no file"),
     }
 }
 
 // The value of a field of a file.
-fn field(alloc: Global, bytes: &[u8], name: &str) -> Result<String, Fault> {
+fn field(alloc: Global, words: &[Word]) -> Result<String, Fault> {
+    let [text, name] = words else {
+        return Err(Fault::Unknown);
+    };
+    let name = name.text()?;
+    let bytes = text.bytes.as_slice();
     if bytes.len() > FILE_LIMIT {
         return Err(Fault::Line("the text is too long"));
     }
-    let Ok(file) = read_file(alloc, bytes) else {
-        return plain(alloc, "no file");
-    };
+    match read_file(alloc, bytes) {
+        Ok(file) => show_field(alloc, &file, name),
+        Err(_) => plain(alloc, "no file"),
+    }
+}
+
+fn show_field(alloc: Global, file: &File, name: &str) -> Result<String, Fault> {
     match file.field(name) {
-        Some(value) => {
-            let mut text = String::new(alloc);
-            push_node(&mut text, value)?;
-            Ok(text)
-        }
+        Some(value) => show_node(alloc, value),
         None => plain(alloc, "none"),
     }
+}
+
+fn show_node(alloc: Global, node: &Node) -> Result<String, Fault> {
+    let mut text = String::new(alloc);
+    push_node(&mut text, node)?;
+    Ok(text)
+}
+
+fn show_text(alloc: Global, words: &[Word]) -> Result<String, Fault> {
+    let [text, start, end] = words else {
+        return Err(Fault::Unknown);
+    };
+    text_between(alloc, text.bytes.as_slice(), start.number()?, end.number()?)
 }
 
 fn text_between(alloc: Global, bytes: &[u8], start: u64, end: u64) -> Result<String, Fault> {
@@ -86,17 +110,19 @@ fn push_item(text: &mut String, key: &Key, item: &Item, span: Span) -> Result<()
             push(text, ": ")?;
             push_node(text, value)
         }
-        Item::Section(fields) => {
-            push(text, " {")?;
-            for (name, value) in fields {
-                push(text, " ")?;
-                push(text, name.as_str())?;
-                push(text, ": ")?;
-                push_node(text, value)?;
-            }
-            push(text, " }")
-        }
+        Item::Section(fields) => push_fields(text, fields),
     }
+}
+
+fn push_fields(text: &mut String, fields: &IndexMap<opam_syntax::Word, Node>) -> Result<(), Fault> {
+    push(text, " {")?;
+    for (name, value) in fields {
+        push(text, " ")?;
+        push(text, name.as_str())?;
+        push(text, ": ")?;
+        push_node(text, value)?;
+    }
+    push(text, " }")
 }
 
 #[cycle(show)]

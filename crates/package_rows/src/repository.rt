@@ -17,15 +17,26 @@ pub fn answer(
     call: &Call,
     devices: &mut Devices,
     vars: &Vars,
-) -> Result<Option<String>, Fault> {
-    match (call.name.as_str(), call.words.as_slice()) {
-        ("find", [repo, pkg, room, part]) => {
-            let pkg = pkg_of(alloc, pkg)?;
-            let found = look(alloc, devices, repo.text()?, &pkg, room.number()?, vars);
-            Ok(Some(show(alloc, found, part)?))
-        }
-        _ => Ok(None),
+) -> Result<String, Fault> {
+    match call.name.as_str() {
+        "find" => show_found(alloc, call.words.as_slice(), devices, vars),
+        _ => Err(Fault::Unknown),
     }
+}
+
+fn show_found(
+    alloc: Global,
+    words: &[Word],
+    devices: &mut Devices,
+    vars: &Vars,
+) -> Result<String, Fault> {
+    let [repo, pkg, room, part] = words else {
+        return Err(Fault::Unknown);
+    };
+    let repo = repo.text()?;
+    let room = room.number()?;
+    let pkg = pkg_of(alloc, pkg)?;
+    show(alloc, look(alloc, devices, repo, &pkg, room, vars), part)
 }
 
 fn look(

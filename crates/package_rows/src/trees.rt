@@ -41,13 +41,78 @@ fn bare(alloc: Global, stack: &mut Vec<Node>, text: &str) -> Result<Node, Fault>
     if let Some(place) = text.strip_prefix('@') {
         return put_at(stack, place);
     }
-    if let Some(value) = related(alloc, stack, text)? {
-        return Ok(placed(value));
+    Ok(placed(value_of(alloc, stack, sign_of(text))?))
+}
+
+// What a bare word says of the values before it.
+#[derive(Clone, Copy)]
+enum Sign<'a> {
+    Relation(RelOp),
+    Update(EnvOp),
+    /// A relation with nothing on its left.
+    Prefixed(RelOp),
+    Not,
+    Defined,
+    // The number of the parts.
+    And(&'a str),
+    Or(&'a str),
+    List(&'a str),
+    Group(&'a str),
+    Braced(&'a str),
+    /// A value of its own.
+    Leaf(&'a str),
+}
+
+fn sign_of(text: &str) -> Sign<'_> {
+    if let Some(op) = relation(text) {
+        return Sign::Relation(op);
     }
-    if let Some(value) = joined(alloc, stack, text)? {
-        return Ok(placed(value));
+    if let Some(op) = update(text) {
+        return Sign::Update(op);
     }
-    Ok(placed(leaf(alloc, text)?))
+    if let Some(op) = text.strip_prefix('_').and_then(|sign| relation(sign)) {
+        return Sign::Prefixed(op);
+    }
+    match text {
+        "!" => Sign::Not,
+        "?" => Sign::Defined,
+        _ => joint_of(text),
+    }
+}
+
+fn joint_of(text: &str) -> Sign<'_> {
+    if let Some(count) = text.strip_prefix('&') {
+        return Sign::And(count);
+    }
+    if let Some(count) = text.strip_prefix('|') {
+        return Sign::Or(count);
+    }
+    if let Some(count) = inside(text, '[', ']') {
+        return Sign::List(count);
+    }
+    if let Some(count) = inside(text, '(', ')') {
+        return Sign::Group(count);
+    }
+    if let Some(count) = inside(text, '{', '}') {
+        return Sign::Braced(count);
+    }
+    Sign::Leaf(text)
+}
+
+fn value_of(alloc: Global, stack: &mut Vec<Node>, sign: Sign<'_>) -> Result<Value, Fault> {
+    match sign {
+        Sign::Relation(op) => related(alloc, stack, op),
+        Sign::Update(op) => updated(alloc, stack, op),
+        Sign::Prefixed(op) => Ok(Value::PreRel(op, pop_boxed(alloc, stack)?)),
+        Sign::Not => Ok(Value::Not(pop_boxed(alloc, stack)?)),
+        Sign::Defined => Ok(Value::Defined(pop_boxed(alloc, stack)?)),
+        Sign::And(count) => Ok(Value::And(counted(alloc, stack, count)?)),
+        Sign::Or(count) => Ok(Value::Or(counted(alloc, stack, count)?)),
+        Sign::List(count) => Ok(Value::List(counted(alloc, stack, count)?)),
+        Sign::Group(count) => Ok(Value::Group(counted(alloc, stack, count)?)),
+        Sign::Braced(count) => braced(alloc, stack, count),
+        Sign::Leaf(text) => leaf(alloc, text),
+    }
 }
 
 fn pop(stack: &mut Vec<Node>) -> Result<Node, Fault> {
@@ -115,50 +180,24 @@ fn update(sign: &str) -> Option<EnvOp> {
     }
 }
 
-// A sign with one value or two.
-fn related(alloc: Global, stack: &mut Vec<Node>, text: &str) -> Result<Option<Value>, Fault> {
-    if let Some(op) = relation(text) {
-        let right = pop_boxed(alloc, stack)?;
-        return Ok(Some(Value::Rel(op, pop_boxed(alloc, stack)?, right)));
-    }
-    if let Some(op) = update(text) {
-        let right = pop_boxed(alloc, stack)?;
-        return Ok(Some(Value::Env(op, pop_boxed(alloc, stack)?, right)));
-    }
-    if let Some(op) = text.strip_prefix('_').and_then(|sign| relation(sign)) {
-        return Ok(Some(Value::PreRel(op, pop_boxed(alloc, stack)?)));
-    }
-    match text {
-        "!" => Ok(Some(Value::Not(pop_boxed(alloc, stack)?))),
-        "?" => Ok(Some(Value::Defined(pop_boxed(alloc, stack)?))),
-        _ => Ok(None),
-    }
+fn related(alloc: Global, stack: &mut Vec<Node>, op: RelOp) -> Result<Value, Fault> {
+    let right = pop_boxed(alloc, stack)?;
+    Ok(Value::Rel(op, pop_boxed(alloc, stack)?, right))
+}
+
+fn updated(alloc: Global, stack: &mut Vec<Node>, op: EnvOp) -> Result<Value, Fault> {
+    let right = pop_boxed(alloc, stack)?;
+    Ok(Value::Env(op, pop_boxed(alloc, stack)?, right))
+}
+
+fn braced(alloc: Global, stack: &mut Vec<Node>, count: &str) -> Result<Value, Fault> {
+    let inner = counted(alloc, stack, count)?;
+    Ok(Value::Braced(pop_boxed(alloc, stack)?, inner))
 }
 
 // What stands between two signs.
 fn inside<'a>(text: &'a str, open: char, close: char) -> Option<&'a str> {
     text.strip_prefix(open)?.strip_suffix(close)
-}
-
-// A sign with as many values as it says.
-fn joined(alloc: Global, stack: &mut Vec<Node>, text: &str) -> Result<Option<Value>, Fault> {
-    if let Some(count) = text.strip_prefix('&') {
-        return Ok(Some(Value::And(counted(alloc, stack, count)?)));
-    }
-    if let Some(count) = text.strip_prefix('|') {
-        return Ok(Some(Value::Or(counted(alloc, stack, count)?)));
-    }
-    if let Some(count) = inside(text, '[', ']') {
-        return Ok(Some(Value::List(counted(alloc, stack, count)?)));
-    }
-    if let Some(count) = inside(text, '(', ')') {
-        return Ok(Some(Value::Group(counted(alloc, stack, count)?)));
-    }
-    if let Some(count) = inside(text, '{', '}') {
-        let inner = counted(alloc, stack, count)?;
-        return Ok(Some(Value::Braced(pop_boxed(alloc, stack)?, inner)));
-    }
-    Ok(None)
 }
 
 fn counted(alloc: Global, stack: &mut Vec<Node>, count: &str) -> Result<Items<Node>, Fault> {

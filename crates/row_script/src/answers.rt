@@ -1,6 +1,8 @@
 // How a line of a script is answered.
 use crate::fault::Fault;
 use std::alloc::{AllocError, Global};
+use std::io;
+use std::io::Write;
 
 /// Blank lines and comments stand for themselves.
 pub fn stands_for_itself(line: &[u8]) -> bool {
@@ -19,17 +21,26 @@ pub fn as_it_is(alloc: Global, line: &[u8]) -> Result<String, AllocError> {
 pub fn with_answer(
     alloc: Global,
     line: &[u8],
-    answer: Result<Option<String>, Fault>,
+    answer: Result<String, Fault>,
 ) -> Result<String, AllocError> {
     let Ok(text) = str::from_utf8(line) else {
         return String::from_str(alloc, NO_TEXT);
     };
     match answer {
-        Ok(Some(answer)) => format!(in alloc; "{text} -> {answer}"),
-        Ok(None) => format!(in alloc; "{text} -> no call: {UNKNOWN}"),
-        Err(Fault::Line(why)) => format!(in alloc; "{text} -> no call: {why}"),
+        Ok(answer) => format!(in alloc; "{text} -> {answer}"),
+        Err(Fault::Line(why)) => no_call(alloc, text, why),
+        Err(Fault::Unknown) => no_call(alloc, text, UNKNOWN),
         Err(Fault::Memory) => format!(in alloc; "{text} -> out of memory"),
     }
+}
+
+fn no_call(alloc: Global, text: &str, why: &str) -> Result<String, AllocError> {
+    format!(in alloc; "{text} -> no call: {why}")
+}
+
+/// Writes a line.
+pub fn write_line<W: Write>(out: &mut W, text: &str) -> io::Result<()> {
+    writeln!(out, "{text}")
 }
 
 const NO_TEXT: &str = "a line that is no UTF-8 text";

@@ -126,10 +126,8 @@ impl Devices {
 
     fn add_host_file(&mut self, alloc: Global, path: &Word, text: &Word) -> Result<(), Fault> {
         self.host = None;
-        Ok(
-            self.host_files
-                .push((path.string(alloc)?, same(alloc, text)?))?,
-        )
+        let path = path.string(alloc)?;
+        Ok(self.host_files.push((path, same(alloc, text)?))?)
     }
 
     fn add_disk_file(
@@ -144,19 +142,27 @@ impl Devices {
         Ok(self.disk_files.push((path, same(alloc, text)?, exec))?)
     }
 
-    fn set_host_fails(&mut self, calls: Vec<u64>) {
+    fn set_host_fails(&mut self, alloc: Global, calls: &[Word]) -> Result<(), Fault> {
+        self.host_fails = numbers(alloc, calls)?;
         self.host = None;
-        self.host_fails = calls;
+        Ok(())
     }
 
-    fn set_disk_fails(&mut self, calls: Vec<u64>) {
+    fn set_disk_fails(&mut self, alloc: Global, calls: &[Word]) -> Result<(), Fault> {
+        self.disk_fails = numbers(alloc, calls)?;
         self.disk = None;
-        self.disk_fails = calls;
+        Ok(())
     }
 
-    fn set_out_fails(&mut self, calls: Vec<u64>) {
+    fn set_out_fails(&mut self, alloc: Global, calls: &[Word]) -> Result<(), Fault> {
+        self.out_fails = numbers(alloc, calls)?;
         self.sink = None;
-        self.out_fails = calls;
+        Ok(())
+    }
+
+    fn set_err_fails(&mut self, alloc: Global, calls: &[Word]) -> Result<(), Fault> {
+        self.err_fails = numbers(alloc, calls)?;
+        Ok(())
     }
 
     fn hold_disk(&mut self) {
@@ -174,24 +180,65 @@ impl Devices {
 }
 
 /// Lines that say what devices are made of.
-pub fn answer(alloc: Global, call: &Call, devices: &mut Devices) -> Result<Option<String>, Fault> {
-    match (call.name.as_str(), call.words.as_slice()) {
-        ("new", []) => *devices = Devices::new(alloc),
-        ("host", [path, text]) => devices.add_host_file(alloc, path, text)?,
-        ("host-fails", calls) => devices.set_host_fails(numbers(alloc, calls)?),
-        ("disk", [path, text]) => devices.add_disk_file(alloc, path, text, false)?,
-        ("disk", [path, text, exec]) if exec.is("exec") => {
-            devices.add_disk_file(alloc, path, text, true)?
-        }
-        ("disk-fails", calls) => devices.set_disk_fails(numbers(alloc, calls)?),
-        ("disk-held", []) => devices.hold_disk(),
-        ("out-fails", calls) => devices.set_out_fails(numbers(alloc, calls)?),
-        ("err-fails", calls) => devices.err_fails = numbers(alloc, calls)?,
-        ("script", words) => devices.add_script(script_of(alloc, words)?)?,
-        ("script-many", words) => devices.add_script(many_of(alloc, words)?)?,
-        _ => return Ok(None),
+pub fn answer(alloc: Global, call: &Call, devices: &mut Devices) -> Result<String, Fault> {
+    note(alloc, call, devices)?;
+    plain(alloc, "noted")
+}
+
+fn note(alloc: Global, call: &Call, devices: &mut Devices) -> Result<(), Fault> {
+    let words = call.words.as_slice();
+    match call.name.as_str() {
+        "new" => begin_anew(alloc, words, devices),
+        "host" => note_host_file(alloc, words, devices),
+        "host-fails" => devices.set_host_fails(alloc, words),
+        "disk" => note_disk_file(alloc, words, devices),
+        "disk-fails" => devices.set_disk_fails(alloc, words),
+        "disk-held" => note_held(words, devices),
+        "out-fails" => devices.set_out_fails(alloc, words),
+        "err-fails" => devices.set_err_fails(alloc, words),
+        "script" => note_script(alloc, words, devices),
+        "script-many" => note_many(alloc, words, devices),
+        _ => Err(Fault::Unknown),
     }
-    Ok(Some(plain(alloc, "noted")?))
+}
+
+fn begin_anew(alloc: Global, words: &[Word], devices: &mut Devices) -> Result<(), Fault> {
+    if !words.is_empty() {
+        return Err(Fault::Unknown);
+    }
+    *devices = Devices::new(alloc);
+    Ok(())
+}
+
+fn note_host_file(alloc: Global, words: &[Word], devices: &mut Devices) -> Result<(), Fault> {
+    match words {
+        [path, text] => devices.add_host_file(alloc, path, text),
+        _ => Err(Fault::Unknown),
+    }
+}
+
+fn note_disk_file(alloc: Global, words: &[Word], devices: &mut Devices) -> Result<(), Fault> {
+    match words {
+        [path, text] => devices.add_disk_file(alloc, path, text, false),
+        [path, text, exec] if exec.is("exec") => devices.add_disk_file(alloc, path, text, true),
+        _ => Err(Fault::Unknown),
+    }
+}
+
+fn note_held(words: &[Word], devices: &mut Devices) -> Result<(), Fault> {
+    if !words.is_empty() {
+        return Err(Fault::Unknown);
+    }
+    devices.hold_disk();
+    Ok(())
+}
+
+fn note_script(alloc: Global, words: &[Word], devices: &mut Devices) -> Result<(), Fault> {
+    devices.add_script(script_of(alloc, words)?)
+}
+
+fn note_many(alloc: Global, words: &[Word], devices: &mut Devices) -> Result<(), Fault> {
+    devices.add_script(many_of(alloc, words)?)
 }
 
 // `a.1 0 2 : x "hi" y unreadable`: the endings of a package's steps, and the files of its build folder.
@@ -199,33 +246,71 @@ fn script_of(alloc: Global, words: &[Word]) -> Result<Script, Fault> {
     let [pkg, rest @ ..] = words else {
         return Err(Fault::Line("a script has no package"));
     };
-    let (endings, files) = cut(rest);
     let mut script = empty_script(alloc, pkg)?;
-    for word in endings {
+    fill(alloc, &mut script, rest)?;
+    Ok(script)
+}
+
+fn fill(alloc: Global, script: &mut Script, words: &[Word]) -> Result<(), Fault> {
+    let (endings, files) = cut(words);
+    add_endings(script, endings)?;
+    add_files(alloc, script, files)
+}
+
+fn add_endings(script: &mut Script, words: &[Word]) -> Result<(), Fault> {
+    for word in words {
         script.endings.push(ending_of(word)?)?;
     }
-    add_files(alloc, &mut script, files)?;
-    Ok(script)
+    Ok(())
 }
 
 // So many files of one text, whose paths are numbered from 0001 on, and others.
 fn many_of(alloc: Global, words: &[Word]) -> Result<Script, Fault> {
-    let [pkg, count, path, text, files @ ..] = words else {
-        return Err(Fault::Line("a script of many files lacks a word"));
+    let [pkg, words @ ..] = words else {
+        return Err(Fault::Line(LACKS));
     };
-    let count = count.number()?;
+    let mut script = empty_script(alloc, pkg)?;
+    fill_many(alloc, &mut script, words)?;
+    Ok(script)
+}
+
+fn fill_many(alloc: Global, script: &mut Script, words: &[Word]) -> Result<(), Fault> {
+    let [count, path, text, files @ ..] = words else {
+        return Err(Fault::Line(LACKS));
+    };
+    for number in 0..count_of(count)? {
+        add_numbered(alloc, script, path, number, text)?;
+    }
+    add_files(alloc, script, files)
+}
+
+const LACKS: &str = "a script of many files lacks a word";
+
+fn count_of(word: &Word) -> Result<u64, Fault> {
+    let count = word.number()?;
     if count > MOST_FILES {
         return Err(Fault::Line("a script has too many files"));
     }
-    let mut script = empty_script(alloc, pkg)?;
+    Ok(count)
+}
+
+fn add_numbered(
+    alloc: Global,
+    script: &mut Script,
+    path: &Word,
+    number: u64,
+    text: &Word,
+) -> Result<(), Fault> {
+    let path = numbered(alloc, path, number)?;
+    let bytes = Items::from_slice(alloc, text.bytes.as_slice())?;
+    Ok(script.files.push((path, Some(bytes)))?)
+}
+
+// The path of the file after so many.
+fn numbered(alloc: Global, path: &Word, number: u64) -> Result<Text, Fault> {
     let path = path.text()?;
-    for number in 1..=count {
-        let numbered = Text::from_string(format!(in alloc; "{path}{number:04}")?);
-        let bytes = Items::from_slice(alloc, text.bytes.as_slice())?;
-        script.files.push((numbered, Some(bytes)))?;
-    }
-    add_files(alloc, &mut script, files)?;
-    Ok(script)
+    let number = number.saturating_add(1);
+    Ok(Text::from_string(format!(in alloc; "{path}{number:04}")?))
 }
 
 fn empty_script(alloc: Global, pkg: &Word) -> Result<Script, Fault> {

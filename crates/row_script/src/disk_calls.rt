@@ -13,27 +13,67 @@ use std::alloc::Global;
 /// Longer files of an image are not shown, in bytes.
 const LONGEST_SHOWN: u64 = 65536;
 
-pub fn answer(alloc: Global, call: &Call, devices: &mut Devices) -> Result<Option<String>, Fault> {
-    let answer = match (call.name.as_str(), call.words.as_slice()) {
-        ("Disk::claim", []) => claim(alloc, devices),
-        ("Disk::look", [path]) => look(alloc, devices, path),
-        ("Disk::read", [path, limit]) => read_disk(alloc, devices, path, limit),
-        ("crash_disk::calls::read", [path, limit]) => read_by_call(alloc, devices, path, limit),
-        ("Disk::put", [path, text]) => put(alloc, devices, path, text, false),
-        ("Disk::put", [path, text, exec]) if exec.is("exec") => {
-            put(alloc, devices, path, text, true)
-        }
-        ("Disk::remove", [path]) => remove(alloc, devices, path),
-        ("Disk::sync", []) => sync(alloc, devices),
-        ("write_all", words) => write(alloc, devices, words),
-        ("Disk::clock", []) => clock(alloc, devices),
-        ("MemoryDisk::calls", []) => disk_calls(alloc, devices),
-        ("MemoryDisk::image", [moment, choice, paths @ ..]) => {
-            image(alloc, devices, moment, choice, paths)
-        }
-        _ => return Ok(None),
-    };
-    Ok(Some(answer?))
+pub fn answer(alloc: Global, call: &Call, devices: &mut Devices) -> Result<String, Fault> {
+    let name = call.name.as_str();
+    let words = call.words.as_slice();
+    match name {
+        "write_all" => write(alloc, devices, words),
+        "Disk::put" => put(alloc, devices, words),
+        "MemoryDisk::image" => image(alloc, devices, words),
+        _ => answer_few(alloc, name, words, devices),
+    }
+}
+
+// Calls with up to two words.
+fn answer_few(
+    alloc: Global,
+    name: &str,
+    words: &[Word],
+    devices: &mut Devices,
+) -> Result<String, Fault> {
+    match words {
+        [] => answer_bare(alloc, name, devices),
+        [path] => answer_path(alloc, name, path, devices),
+        [path, limit] => answer_read(alloc, name, path, limit, devices),
+        _ => Err(Fault::Unknown),
+    }
+}
+
+fn answer_bare(alloc: Global, name: &str, devices: &mut Devices) -> Result<String, Fault> {
+    match name {
+        "Disk::claim" => claim(alloc, devices),
+        "Disk::sync" => sync(alloc, devices),
+        "Disk::clock" => clock(alloc, devices),
+        "MemoryDisk::calls" => disk_calls(alloc, devices),
+        _ => Err(Fault::Unknown),
+    }
+}
+
+fn answer_path(
+    alloc: Global,
+    name: &str,
+    path: &Word,
+    devices: &mut Devices,
+) -> Result<String, Fault> {
+    match name {
+        "Disk::look" => look(alloc, devices, path),
+        "Disk::remove" => remove(alloc, devices, path),
+        _ => Err(Fault::Unknown),
+    }
+}
+
+fn answer_read(
+    alloc: Global,
+    name: &str,
+    path: &Word,
+    limit: &Word,
+    devices: &mut Devices,
+) -> Result<String, Fault> {
+    match name {
+        "Disk::read" => read_disk(alloc, devices, path, limit),
+        "crash_disk::calls::read" => read_by_call(alloc, devices, path, limit),
+        _ => Err(Fault::Unknown),
+    }
 }
 
 /// Whether a call of a device was done.
@@ -111,7 +151,15 @@ fn show_file(alloc: Global, bytes: &[u8], exec: bool) -> Result<String, Fault> {
     Ok(text)
 }
 
-fn put(
+fn put(alloc: Global, devices: &mut Devices, words: &[Word]) -> Result<String, Fault> {
+    match words {
+        [path, text] => put_file(alloc, devices, path, text, false),
+        [path, text, exec] if exec.is("exec") => put_file(alloc, devices, path, text, true),
+        _ => Err(Fault::Unknown),
+    }
+}
+
+fn put_file(
     alloc: Global,
     devices: &mut Devices,
     path: &Word,
@@ -164,19 +212,24 @@ fn write(alloc: Global, devices: &mut Devices, words: &[Word]) -> Result<String,
 }
 
 // What stands at these paths of the image that a stop at a moment leaves; the disk stays as it is.
-fn image(
+fn image(alloc: Global, devices: &mut Devices, words: &[Word]) -> Result<String, Fault> {
+    let [moment, choice, paths @ ..] = words else {
+        return Err(Fault::Unknown);
+    };
+    let mut image = stopped(alloc, devices, moment.number()?, choice_of(choice)?)?;
+    show_paths(alloc, &mut image, paths)
+}
+
+fn stopped(
     alloc: Global,
     devices: &mut Devices,
-    moment: &Word,
-    choice: &Word,
-    paths: &[Word],
-) -> Result<String, Fault> {
-    let moment = moment.number()?;
-    let choice = choice_of(choice)?;
+    moment: u64,
+    choice: Choice,
+) -> Result<MemoryDisk, Fault> {
     let disk = devices.take_disk(alloc);
     let image = image_of(&disk, moment, choice);
     devices.keep_disk(disk);
-    show_paths(alloc, &mut image?, paths)
+    image
 }
 
 fn image_of(disk: &MemoryDisk, moment: u64, choice: Choice) -> Result<MemoryDisk, Fault> {
@@ -199,10 +252,13 @@ fn choice_of(word: &Word) -> Result<Choice, Fault> {
 fn show_paths(alloc: Global, disk: &mut MemoryDisk, paths: &[Word]) -> Result<String, Fault> {
     let mut text = String::from_str(alloc, "image:")?;
     for word in paths {
-        let path = path_of(alloc, word)?;
-        let read = disk.read(alloc, &path, LONGEST_SHOWN);
         text.push_str(" ")?;
-        text.push_str(show_read(alloc, read)?.as_str())?;
+        text.push_str(shown_at(alloc, disk, word)?.as_str())?;
     }
     Ok(text)
+}
+
+fn shown_at(alloc: Global, disk: &mut MemoryDisk, path: &Word) -> Result<String, Fault> {
+    let path = path_of(alloc, path)?;
+    show_read(alloc, disk.read(alloc, &path, LONGEST_SHOWN))
 }

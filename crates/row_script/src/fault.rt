@@ -8,6 +8,8 @@ pub enum Fault {
     /// It is no call, for this reason.
     Line(&'static str),
     Memory,
+    /// There is no call of this name with so many words.
+    Unknown,
 }
 
 impl From<AllocError> for Fault {

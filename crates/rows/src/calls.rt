@@ -1,6 +1,6 @@
 // Calls of `outside_io` and `child_pool` over devices in memory.
 use child_pool::{Crew, SerialCrew, build};
-use opam_names::{Items, Text};
+use opam_names::{Items, RelPath, Text};
 use outside_io::{
     Ending, Failed, Fate, Found, Host, HostFault, Job, ScriptShop, Seen, Sink, Teller, Workshop,
 };
@@ -13,22 +13,71 @@ use row_script::show::{plain, quoted};
 use row_script::values::{path_of, pkg_of};
 use std::alloc::Global;
 
-pub fn answer(alloc: Global, call: &Call, devices: &mut Devices) -> Result<Option<String>, Fault> {
-    let answer = match (call.name.as_str(), call.words.as_slice()) {
-        ("Host::read", [path, limit]) => read_host(alloc, devices, path, limit),
-        ("outside_io::calls::read", [path, limit]) => read_by_call(alloc, devices, path, limit),
-        ("Sink::write", [text]) => write(alloc, devices, text),
-        ("Teller::tell", texts) => tell(alloc, devices, texts),
-        ("MemorySink::bytes", []) => written(alloc, devices),
-        ("MemorySink::calls", []) => written_calls(alloc, devices),
-        ("Workshop::build_step", [pkg, step]) => build_step(alloc, devices, pkg, step),
-        ("Workshop::read", [pkg, path, limit]) => read_built(alloc, devices, pkg, path, limit),
-        ("build", [pkg, commands]) => build_job(alloc, devices, pkg, commands),
-        ("SerialCrew", [workers, one, other]) => run_crew(alloc, devices, workers, one, other),
-        ("Job::copy", [pkg, commands]) => copy_job(alloc, pkg, commands),
-        _ => return Ok(None),
-    };
-    Ok(Some(answer?))
+pub fn answer(alloc: Global, call: &Call, devices: &mut Devices) -> Result<String, Fault> {
+    let name = call.name.as_str();
+    let words = call.words.as_slice();
+    if name == "Teller::tell" {
+        return tell(alloc, devices, words);
+    }
+    match words {
+        [] => answer_bare(alloc, name, devices),
+        [text] => answer_text(alloc, name, text, devices),
+        [one, other] => answer_pair(alloc, name, one, other, devices),
+        [one, other, third] => answer_three(alloc, name, one, other, third, devices),
+        _ => Err(Fault::Unknown),
+    }
+}
+
+fn answer_bare(alloc: Global, name: &str, devices: &mut Devices) -> Result<String, Fault> {
+    match name {
+        "MemorySink::bytes" => written(alloc, devices),
+        "MemorySink::calls" => written_calls(alloc, devices),
+        _ => Err(Fault::Unknown),
+    }
+}
+
+fn answer_text(
+    alloc: Global,
+    name: &str,
+    text: &Word,
+    devices: &mut Devices,
+) -> Result<String, Fault> {
+    match name {
+        "Sink::write" => write(alloc, devices, text),
+        _ => Err(Fault::Unknown),
+    }
+}
+
+fn answer_pair(
+    alloc: Global,
+    name: &str,
+    one: &Word,
+    other: &Word,
+    devices: &mut Devices,
+) -> Result<String, Fault> {
+    match name {
+        "Host::read" => read_host(alloc, devices, one, other),
+        "outside_io::calls::read" => read_by_call(alloc, devices, one, other),
+        "Workshop::build_step" => build_step(alloc, devices, one, other),
+        "build" => build_job(alloc, devices, one, other),
+        "Job::copy" => copy_job(alloc, one, other),
+        _ => Err(Fault::Unknown),
+    }
+}
+
+fn answer_three(
+    alloc: Global,
+    name: &str,
+    one: &Word,
+    other: &Word,
+    third: &Word,
+    devices: &mut Devices,
+) -> Result<String, Fault> {
+    match name {
+        "Workshop::read" => read_built(alloc, devices, one, other, third),
+        "SerialCrew" => run_crew(alloc, devices, one, other, third),
+        _ => Err(Fault::Unknown),
+    }
 }
 
 fn read_host(
@@ -106,18 +155,30 @@ fn written_calls(alloc: Global, devices: &mut Devices) -> Result<String, Fault> 
 
 // A job with a source, so many commands of two words, and a variable.
 fn job_of(alloc: Global, pkg: &Word, commands: u64) -> Result<Job, Fault> {
-    let mut job = Job {
-        pkg: pkg_of(alloc, pkg)?,
+    let pkg = pkg_of(alloc, pkg)?;
+    let commands = commands_of(alloc, commands)?;
+    let env = env_of(alloc)?;
+    Ok(Job {
+        pkg,
         source: Some(Text::from_str(alloc, "src")?),
-        commands: Items::new(alloc),
-        env: Items::new(alloc),
-    };
-    let prefix = Text::from_str(alloc, "PREFIX")?;
-    job.env.push((prefix, Text::from_str(alloc, "/p")?))?;
-    for _ in 0..commands {
-        job.commands.push(command(alloc)?)?;
+        commands,
+        env,
+    })
+}
+
+fn env_of(alloc: Global) -> Result<Items<(Text, Text)>, Fault> {
+    let mut env = Items::new(alloc);
+    let name = Text::from_str(alloc, "PREFIX")?;
+    env.push((name, Text::from_str(alloc, "/p")?))?;
+    Ok(env)
+}
+
+fn commands_of(alloc: Global, count: u64) -> Result<Items<Items<Text>>, Fault> {
+    let mut commands = Items::new(alloc);
+    for _ in 0..count {
+        commands.push(command(alloc)?)?;
     }
-    Ok(job)
+    Ok(commands)
 }
 
 fn command(alloc: Global) -> Result<Items<Text>, Fault> {
@@ -135,10 +196,15 @@ fn build_step(
 ) -> Result<String, Fault> {
     let step = small(step)?;
     let job = job_of(alloc, pkg, u64::from(step))?;
+    let ending = ending_of(alloc, devices, &job, step)?;
+    show_ending(alloc, ending)
+}
+
+fn ending_of(alloc: Global, devices: &mut Devices, job: &Job, step: u32) -> Result<Ending, Fault> {
     let shop = devices.take_shop(alloc)?;
-    let ending = shop.build_step(alloc, &job, step);
+    let ending = shop.build_step(alloc, job, step);
     devices.keep_shop(shop);
-    show_ending(alloc, ending?)
+    Ok(ending?)
 }
 
 fn read_built(
@@ -151,10 +217,25 @@ fn read_built(
     let limit = limit.number()?;
     let path = path_of(alloc, path)?;
     let job = job_of(alloc, pkg, 0)?;
+    let seen = look(alloc, devices, &job, &path, limit)?;
+    show_seen(alloc, seen)
+}
+
+fn look(
+    alloc: Global,
+    devices: &mut Devices,
+    job: &Job,
+    path: &RelPath,
+    limit: u64,
+) -> Result<Seen, Fault> {
     let shop = devices.take_shop(alloc)?;
-    let seen = shop.read(alloc, &job, &path, limit);
+    let seen = shop.read(alloc, job, path, limit);
     devices.keep_shop(shop);
-    match seen? {
+    Ok(seen?)
+}
+
+fn show_seen(alloc: Global, seen: Seen) -> Result<String, Fault> {
+    match seen {
         Seen::Absent => plain(alloc, "absent"),
         Seen::Bytes(bytes) => quoted(alloc, bytes.as_slice()),
         Seen::TooLong => plain(alloc, "too long"),
@@ -177,13 +258,18 @@ fn build_job(
     commands: &Word,
 ) -> Result<String, Fault> {
     let job = job_of(alloc, pkg, u64::from(small(commands)?))?;
+    let fate = fate_of(alloc, devices, &job)?;
+    show_fate(alloc, fate)
+}
+
+fn fate_of(alloc: Global, devices: &mut Devices, job: &Job) -> Result<Fate, Fault> {
     if job.commands.len() > 1000 {
         return Err(Fault::Line("a job has too many commands"));
     }
     let shop = devices.take_shop(alloc)?;
-    let fate = build(alloc, &*shop, &job);
+    let fate = build(alloc, &*shop, job);
     devices.keep_shop(shop);
-    show_fate(alloc, fate?)
+    Ok(fate?)
 }
 
 // Two jobs of two commands, of which the second starts where there is room; then the ends are taken.
@@ -210,28 +296,44 @@ fn crew_text(
     one: Job,
     other: Job,
 ) -> Result<String, Fault> {
+    let mut text = String::new(alloc);
+    push_run(alloc, &mut text, shop, workers, one, other)?;
+    Ok(text)
+}
+
+fn push_run(
+    alloc: Global,
+    text: &mut String,
+    shop: &ScriptShop,
+    workers: u32,
+    one: Job,
+    other: Job,
+) -> Result<(), Fault> {
     if workers < 2 || one.commands.len() > 1000 || other.commands.len() > 1000 {
         return Err(Fault::Line("two jobs do not run at a time"));
     }
     let mut crew = SerialCrew::new(alloc, shop, workers);
-    let mut text = format!(in alloc; "{} workers", crew.workers())?;
-    push_crew(&mut text, crew.room(), crew.idle())?;
+    push_workers(text, &crew)?;
     crew.start(alloc, 0, one)?;
-    push_crew(&mut text, crew.room(), crew.idle())?;
+    push_crew(text, &crew)?;
     crew.start(alloc, 1, other)?;
-    push_crew(&mut text, crew.room(), crew.idle())?;
+    push_crew(text, &crew)?;
     let first = crew.take_end(alloc)?;
-    push_end(alloc, &mut text, first)?;
-    push_crew(&mut text, crew.room(), crew.idle())?;
+    push_end(alloc, text, first)?;
+    push_crew(text, &crew)?;
     let second = crew.take_end(alloc)?;
-    push_end(alloc, &mut text, second)?;
-    push_crew(&mut text, crew.room(), crew.idle())?;
-    Ok(text)
+    push_end(alloc, text, second)?;
+    push_crew(text, &crew)
 }
 
-fn push_crew(text: &mut String, room: bool, idle: bool) -> Result<(), Fault> {
-    text.push_str(if room { ", room" } else { ", no room" })?;
-    Ok(text.push_str(if idle { " and idle" } else { "" })?)
+fn push_workers(text: &mut String, crew: &SerialCrew<'_, ScriptShop>) -> Result<(), Fault> {
+    write!(text, "{} workers", crew.workers())?;
+    push_crew(text, crew)
+}
+
+fn push_crew(text: &mut String, crew: &SerialCrew<'_, ScriptShop>) -> Result<(), Fault> {
+    text.push_str(if crew.room() { ", room" } else { ", no room" })?;
+    Ok(text.push_str(if crew.idle() { " and idle" } else { "" })?)
 }
 
 fn push_end(alloc: Global, text: &mut String, end: (u32, Fate)) -> Result<(), Fault> {
@@ -241,18 +343,36 @@ fn push_end(alloc: Global, text: &mut String, end: (u32, Fate)) -> Result<(), Fa
 }
 
 fn copy_job(alloc: Global, pkg: &Word, commands: &Word) -> Result<String, Fault> {
-    let job = job_of(alloc, pkg, u64::from(small(commands)?))?.copy(alloc)?;
+    let job = job_of(alloc, pkg, u64::from(small(commands)?))?;
+    show_copy(alloc, &job)
+}
+
+fn show_copy(alloc: Global, job: &Job) -> Result<String, Fault> {
+    let copy = job.copy(alloc)?;
+    show_job(alloc, &copy)
+}
+
+fn show_job(alloc: Global, job: &Job) -> Result<String, Fault> {
     let mut text = job.pkg.print(alloc)?;
+    push_job(&mut text, job)?;
+    Ok(text)
+}
+
+fn push_job(text: &mut String, job: &Job) -> Result<(), Fault> {
     if let Some(source) = &job.source {
         write!(text, " from {}", source.as_str())?;
     }
     for words in job.commands.as_slice() {
-        push_words(&mut text, words.as_slice())?;
+        push_words(text, words.as_slice())?;
     }
-    for (name, value) in job.env.as_slice() {
+    push_env(text, job.env.as_slice())
+}
+
+fn push_env(text: &mut String, env: &[(Text, Text)]) -> Result<(), Fault> {
+    for (name, value) in env {
         write!(text, ", {}={}", name.as_str(), value.as_str())?;
     }
-    Ok(text)
+    Ok(())
 }
 
 fn push_words(text: &mut String, words: &[Text]) -> Result<(), Fault> {

@@ -23,26 +23,32 @@ use switch_journal::{
 /// Numbers of records in a script are smaller.
 const MOST_RECORDS: u64 = 1000000;
 
-pub fn answer(alloc: Global, call: &Call, devices: &mut Devices) -> Result<Option<String>, Fault> {
-    let answer = match (call.name.as_str(), call.words.as_slice()) {
-        ("record_path_of", [number]) => shown(alloc, record_path_of(alloc, number.number()?)),
-        ("gate_path_of", [number]) => shown(alloc, gate_path_of(alloc, number.number()?)),
-        ("slot_path_of", [slot]) => shown(alloc, slot_path_of(alloc, slot_of(slot)?)),
-        ("slot_gate_of", [slot]) => shown(alloc, slot_gate_of(alloc, slot_of(slot)?)),
-        ("make_ready", [number, text, writes @ ..]) => show_ready(alloc, number, text, writes),
-        ("commit", [number, text, writes @ ..]) => run_commit(alloc, devices, number, text, writes),
-        ("redo", writes) => run_redo(alloc, devices, writes),
-        ("make_slot", [slot, state, text, first, count]) => {
-            show_slot(alloc, slot, state, text, first, count)
-        }
-        ("write_slot", [slot, state, text, first, count]) => {
-            run_slot(alloc, devices, slot, state, text, first, count)
-        }
-        ("read_record", [number, limit]) => read_a_record(alloc, devices, number, limit),
-        ("read_slot", [slot, limit]) => read_a_slot(alloc, devices, slot, limit),
-        _ => return Ok(None),
+pub fn answer(alloc: Global, call: &Call, devices: &mut Devices) -> Result<String, Fault> {
+    let words = call.words.as_slice();
+    match call.name.as_str() {
+        "make_ready" => show_ready(alloc, words),
+        "commit" => run_commit(alloc, devices, words),
+        "redo" => run_redo(alloc, devices, words),
+        "make_slot" => show_slot(alloc, words),
+        "write_slot" => run_slot(alloc, devices, words),
+        "read_record" => read_a_record(alloc, devices, words),
+        "read_slot" => read_a_slot(alloc, devices, words),
+        name => answer_path(alloc, name, words),
+    }
+}
+
+// Where a record or a slot stands.
+fn answer_path(alloc: Global, name: &str, words: &[Word]) -> Result<String, Fault> {
+    let [word] = words else {
+        return Err(Fault::Unknown);
     };
-    Ok(Some(answer?))
+    match name {
+        "record_path_of" => shown(alloc, record_path_of(alloc, word.number()?)),
+        "gate_path_of" => shown(alloc, gate_path_of(alloc, word.number()?)),
+        "slot_path_of" => shown(alloc, slot_path_of(alloc, slot_of(word)?)),
+        "slot_gate_of" => shown(alloc, slot_gate_of(alloc, slot_of(word)?)),
+        _ => Err(Fault::Unknown),
+    }
 }
 
 fn shown(alloc: Global, path: Result<RelPath, OutOfMemory>) -> Result<String, Fault> {
@@ -70,31 +76,34 @@ fn record_number(word: &Word) -> Result<u64, Fault>
     }
 }
 
-fn ready_of(alloc: Global, number: &Word, text: &Word, writes: &[Word]) -> Result<Ready, Fault> {
+fn ready_of(alloc: Global, words: &[Word]) -> Result<Ready, Fault> {
+    let [number, text, writes @ ..] = words else {
+        return Err(Fault::Unknown);
+    };
     let number = record_number(number)?;
     let bytes = Items::from_slice(alloc, text.bytes.as_slice())?;
     Ok(make_ready(alloc, number, bytes, writes_of(alloc, writes)?)?)
 }
 
-fn show_ready(alloc: Global, number: &Word, text: &Word, writes: &[Word]) -> Result<String, Fault> {
-    let ready = ready_of(alloc, number, text, writes)?;
-    let mut text = String::from_str(alloc, "record:")?;
-    push_writes(&mut text, ready.entry.as_slice())?;
-    text.push_str("; gate:")?;
-    push_writes(&mut text, ready.gate.as_slice())?;
-    text.push_str("; work:")?;
-    push_writes(&mut text, ready.writes.as_slice())?;
+fn show_ready(alloc: Global, words: &[Word]) -> Result<String, Fault> {
+    let mut text = String::new(alloc);
+    push_ready(&mut text, &ready_of(alloc, words)?)?;
     Ok(text)
 }
 
-fn run_commit(
-    alloc: Global,
-    devices: &mut Devices,
-    number: &Word,
-    text: &Word,
-    writes: &[Word],
-) -> Result<String, Fault> {
-    let ready = ready_of(alloc, number, text, writes)?;
+fn push_ready(text: &mut String, ready: &Ready) -> Result<(), Fault> {
+    push_batch(text, "record:", ready.entry.as_slice())?;
+    push_batch(text, "; gate:", ready.gate.as_slice())?;
+    push_batch(text, "; work:", ready.writes.as_slice())
+}
+
+fn push_batch(text: &mut String, name: &str, writes: &[Write]) -> Result<(), Fault> {
+    text.push_str(name)?;
+    push_writes(text, writes)
+}
+
+fn run_commit(alloc: Global, devices: &mut Devices, words: &[Word]) -> Result<String, Fault> {
+    let ready = ready_of(alloc, words)?;
     if !are_outside(alloc, ready.writes.as_slice())? {
         return Err(Fault::Line("a record's work lies in the journal's folder"));
     }
@@ -146,71 +155,63 @@ fn is_outside_of(folder: &RelPath, write: &Write) -> bool
     }
 }
 
-fn slot_ready(
-    alloc: Global,
-    slot: &Word,
-    state: &Word,
-    text: &Word,
-    first: &Word,
-    count: &Word,
-) -> Result<ReadySlot, Fault> {
-    let slot = slot_of(slot)?;
-    let is_open = match state.text()? {
-        "open" => true,
-        "shut" => false,
-        _ => return Err(Fault::Line("a gate is open or shut")),
+fn slot_ready(alloc: Global, words: &[Word]) -> Result<ReadySlot, Fault> {
+    let [slot, state, text, first, count] = words else {
+        return Err(Fault::Unknown);
     };
-    let first = first.number()?;
-    let count = count.number()?;
-    if first >= MOST_RECORDS || count >= MOST_RECORDS {
-        return Err(Fault::Line("a number of records is too large"));
-    }
+    let slot = slot_of(slot)?;
+    let is_open = gate_of(state)?;
+    let first = small(first)?;
+    let count = small(count)?;
     let bytes = Items::from_slice(alloc, text.bytes.as_slice())?;
     Ok(make_slot(alloc, slot, is_open, bytes, first, count)?)
 }
 
-fn show_slot(
-    alloc: Global,
-    slot: &Word,
-    state: &Word,
-    text: &Word,
-    first: &Word,
-    count: &Word,
-) -> Result<String, Fault> {
-    let ready = slot_ready(alloc, slot, state, text, first, count)?;
-    let mut text = String::from_str(alloc, "shut:")?;
-    push_writes(&mut text, ready.shut.as_slice())?;
-    text.push_str("; slot:")?;
-    push_writes(&mut text, ready.slot.as_slice())?;
-    text.push_str("; gate:")?;
-    push_writes(&mut text, ready.gate.as_slice())?;
-    text.push_str("; old:")?;
-    push_writes(&mut text, ready.old.as_slice())?;
+// Whether a gate is open.
+fn gate_of(word: &Word) -> Result<bool, Fault> {
+    match word.text()? {
+        "open" => Ok(true),
+        "shut" => Ok(false),
+        _ => Err(Fault::Line("a gate is open or shut")),
+    }
+}
+
+fn small(word: &Word) -> Result<u64, Fault>
+    ensures { IfOk result (λ number. number < 1000000) }
+{
+    let number = word.number()?;
+    if number < MOST_RECORDS {
+        Ok(number)
+    } else {
+        Err(Fault::Line("a number of records is too large"))
+    }
+}
+
+fn show_slot(alloc: Global, words: &[Word]) -> Result<String, Fault> {
+    let mut text = String::new(alloc);
+    push_slot(&mut text, &slot_ready(alloc, words)?)?;
     Ok(text)
 }
 
-fn run_slot(
-    alloc: Global,
-    devices: &mut Devices,
-    slot: &Word,
-    state: &Word,
-    text: &Word,
-    first: &Word,
-    count: &Word,
-) -> Result<String, Fault> {
-    let ready = slot_ready(alloc, slot, state, text, first, count)?;
+fn push_slot(text: &mut String, ready: &ReadySlot) -> Result<(), Fault> {
+    push_batch(text, "shut:", ready.shut.as_slice())?;
+    push_batch(text, "; slot:", ready.slot.as_slice())?;
+    push_batch(text, "; gate:", ready.gate.as_slice())?;
+    push_batch(text, "; old:", ready.old.as_slice())
+}
+
+fn run_slot(alloc: Global, devices: &mut Devices, words: &[Word]) -> Result<String, Fault> {
+    let ready = slot_ready(alloc, words)?;
     let mut disk = devices.take_disk(alloc);
     let answer = write_slot(&mut disk, &ready);
     devices.keep_disk(disk);
     done(alloc, answer)
 }
 
-fn read_a_record(
-    alloc: Global,
-    devices: &mut Devices,
-    number: &Word,
-    limit: &Word,
-) -> Result<String, Fault> {
+fn read_a_record(alloc: Global, devices: &mut Devices, words: &[Word]) -> Result<String, Fault> {
+    let [number, limit] = words else {
+        return Err(Fault::Unknown);
+    };
     let number = number.number()?;
     let limit = limit.number()?;
     let mut disk = devices.take_disk(alloc);
@@ -219,12 +220,10 @@ fn read_a_record(
     show_gated(alloc, answer)
 }
 
-fn read_a_slot(
-    alloc: Global,
-    devices: &mut Devices,
-    slot: &Word,
-    limit: &Word,
-) -> Result<String, Fault> {
+fn read_a_slot(alloc: Global, devices: &mut Devices, words: &[Word]) -> Result<String, Fault> {
+    let [slot, limit] = words else {
+        return Err(Fault::Unknown);
+    };
     let slot = slot_of(slot)?;
     let limit = limit.number()?;
     let mut disk = devices.take_disk(alloc);

@@ -11,28 +11,49 @@ use std::alloc::Global;
 /// No buffer of a script has more room.
 const MOST_ROOM: u64 = 1000000;
 
-pub fn answer(alloc: Global, call: &Call) -> Result<Option<String>, Fault> {
-    let answer = match (call.name.as_str(), call.words.as_slice()) {
-        ("Items::push", [item, words @ ..]) => push(alloc, item, words),
-        ("Items::insert", [at, item, words @ ..]) => insert(alloc, at, item, words),
-        ("Items::remove", [at, words @ ..]) => remove(alloc, at, words),
-        ("Items::set", [at, item, words @ ..]) => set(alloc, at, item, words),
-        ("Items::swap", [one, other, words @ ..]) => swap(alloc, one, other, words),
-        ("Items::truncate", [len, words @ ..]) => truncate(alloc, len, words),
-        ("Items::clear", words) => clear(alloc, words),
-        ("Items::pop", words) => pop(alloc, words),
-        ("Items::get", [at, words @ ..]) => get(alloc, at, words),
-        ("Items::last", words) => last(alloc, words),
-        ("Items::len", words) => len(alloc, words),
-        ("Items::is_empty", words) => answered(alloc, texts(alloc, words)?.is_empty()),
-        ("Items::sort_by_bytes", words) => sort(alloc, words),
-        ("Items::from_slice", [word]) => copy_bytes(alloc, word),
-        ("Items::from_vec", words) => there_and_back(alloc, words),
-        ("Buffer::push", [room, words @ ..]) => fill(alloc, room, words),
-        ("Buffer::truncate", [len, words @ ..]) => cut_buffer(alloc, len, words),
-        _ => return Ok(None),
+pub fn answer(alloc: Global, call: &Call) -> Result<String, Fault> {
+    let name = call.name.as_str();
+    let words = call.words.as_slice();
+    match name {
+        "Items::clear" => clear(alloc, words),
+        "Items::pop" => pop(alloc, words),
+        "Items::last" => last(alloc, words),
+        "Items::len" => len(alloc, words),
+        "Items::is_empty" => is_empty(alloc, words),
+        "Items::sort_by_bytes" => sort(alloc, words),
+        "Items::from_slice" => copy_bytes(alloc, words),
+        "Items::from_vec" => there_and_back(alloc, words),
+        _ => answer_first(alloc, name, words),
+    }
+}
+
+// Calls with a word before those of the list.
+fn answer_first(alloc: Global, name: &str, words: &[Word]) -> Result<String, Fault> {
+    let [first, words @ ..] = words else {
+        return Err(Fault::Unknown);
     };
-    Ok(Some(answer?))
+    match name {
+        "Items::push" => push(alloc, first, words),
+        "Items::remove" => remove(alloc, first, words),
+        "Items::truncate" => truncate(alloc, first, words),
+        "Items::get" => get(alloc, first, words),
+        "Buffer::push" => fill(alloc, first, words),
+        "Buffer::truncate" => cut_buffer(alloc, first, words),
+        _ => answer_second(alloc, name, first, words),
+    }
+}
+
+// Calls with two words before those of the list.
+fn answer_second(alloc: Global, name: &str, first: &Word, words: &[Word]) -> Result<String, Fault> {
+    let [second, words @ ..] = words else {
+        return Err(Fault::Unknown);
+    };
+    match name {
+        "Items::insert" => insert(alloc, first, second, words),
+        "Items::set" => set(alloc, first, second, words),
+        "Items::swap" => swap(alloc, first, second, words),
+        _ => Err(Fault::Unknown),
+    }
 }
 
 fn text_of(alloc: Global, word: &Word) -> Result<Text, Fault> {
@@ -102,9 +123,13 @@ fn remove(alloc: Global, at: &Word, words: &[Word]) -> Result<String, Fault> {
     let mut items = texts(alloc, words)?;
     let at = place_in(at, &items)?;
     let item = items.remove(at);
+    show_taken(alloc, &item, items.as_slice())
+}
+
+fn show_taken(alloc: Global, item: &Text, left: &[Text]) -> Result<String, Fault> {
     let mut text = quoted(alloc, item.as_str().as_bytes())?;
     text.push_str(" of list:")?;
-    push_texts(&mut text, items.as_slice())?;
+    push_texts(&mut text, left)?;
     Ok(text)
 }
 
@@ -138,12 +163,7 @@ fn clear(alloc: Global, words: &[Word]) -> Result<String, Fault> {
 fn pop(alloc: Global, words: &[Word]) -> Result<String, Fault> {
     let mut items = texts(alloc, words)?;
     match items.pop() {
-        Some(item) => {
-            let mut text = quoted(alloc, item.as_str().as_bytes())?;
-            text.push_str(" of list:")?;
-            push_texts(&mut text, items.as_slice())?;
-            Ok(text)
-        }
+        Some(item) => show_taken(alloc, &item, items.as_slice()),
         None => plain(alloc, "none"),
     }
 }
@@ -169,13 +189,20 @@ fn len(alloc: Global, words: &[Word]) -> Result<String, Fault> {
     Ok(format!(in alloc; "{len}")?)
 }
 
+fn is_empty(alloc: Global, words: &[Word]) -> Result<String, Fault> {
+    answered(alloc, texts(alloc, words)?.is_empty())
+}
+
 fn sort(alloc: Global, words: &[Word]) -> Result<String, Fault> {
     let mut items = texts(alloc, words)?;
     items.sort_by_bytes()?;
     show(alloc, items.as_slice())
 }
 
-fn copy_bytes(alloc: Global, word: &Word) -> Result<String, Fault> {
+fn copy_bytes(alloc: Global, words: &[Word]) -> Result<String, Fault> {
+    let [word] = words else {
+        return Err(Fault::Unknown);
+    };
     let items = Items::from_slice(alloc, word.bytes.as_slice())?;
     quoted(alloc, items.as_slice())
 }
@@ -196,21 +223,30 @@ fn room_of(word: &Word) -> Result<usize, Fault> {
 
 // Room for so many is made each time, and a word is put there without memory.
 fn fill(alloc: Global, room: &Word, words: &[Word]) -> Result<String, Fault> {
-    let room = room_of(room)?.max(1);
+    let room = room_of(room)?;
     let mut pushed = Buffer::new(alloc);
     for word in words {
-        let text = text_of(alloc, word)?;
-        pushed.reserve(room)?;
-        pushed.push(text);
+        put_in(alloc, &mut pushed, room, word)?;
     }
     show(alloc, pushed.into_items().as_slice())
+}
+
+fn put_in(alloc: Global, pushed: &mut Buffer<Text>, room: usize, word: &Word) -> Result<(), Fault> {
+    let text = text_of(alloc, word)?;
+    pushed.reserve(room.max(1))?;
+    pushed.push(text);
+    Ok(())
 }
 
 fn cut_buffer(alloc: Global, len: &Word, words: &[Word]) -> Result<String, Fault> {
     let mut items = Buffer::from_items(texts(alloc, words)?);
     items.truncate(room_of(len)?);
-    let left = items.len();
-    let mut text = format!(in alloc; "{left} of list:")?;
-    push_texts(&mut text, items.as_slice())?;
+    show_counted(alloc, items.as_slice())
+}
+
+fn show_counted(alloc: Global, items: &[Text]) -> Result<String, Fault> {
+    let count = items.len();
+    let mut text = format!(in alloc; "{count} of list:")?;
+    push_texts(&mut text, items)?;
     Ok(text)
 }

@@ -13,33 +13,32 @@ mod spellings;
 mod words;
 
 use owner_map::Owners;
-use row_script::answers::{as_it_is, stands_for_itself, with_answer};
+use row_script::answers::{as_it_is, stands_for_itself, with_answer, write_line};
 use row_script::devices::Devices;
 use row_script::fault::Fault;
-use row_script::script::read_call;
+use row_script::script::{Call, read_call};
 use row_script::{devices, disk_calls};
-use std::alloc::Global;
+use std::alloc::{AllocError, Global};
 use std::io;
 use std::io::{BufRead, BufReader, BufWriter, Write};
 
 fn main(rt: HostRuntime) -> io::Result<()> {
     let alloc = rt.alloc();
-    let mut world = World {
-        devices: Devices::new(alloc),
-        owners: Owners::empty(alloc),
-    };
+    let mut world = World::new(alloc);
     let mut out = BufWriter::new(alloc, io::writer(&rt))?;
     for line in BufReader::new(alloc, rt.reader())?.split(alloc, b'\n') {
-        let line = line?;
-        let line = line.as_slice();
-        let text = if stands_for_itself(line) {
-            as_it_is(alloc, line)?
-        } else {
-            with_answer(alloc, line, answer(alloc, line, &mut world))?
-        };
-        writeln!(out, "{text}")?;
+        let text = reply(alloc, line?.as_slice(), &mut world)?;
+        write_line(&mut out, text.as_str())?;
     }
     out.flush()
+}
+
+// What is printed for a line.
+fn reply(alloc: Global, line: &[u8], world: &mut World) -> Result<String, AllocError> {
+    if stands_for_itself(line) {
+        return as_it_is(alloc, line);
+    }
+    with_answer(alloc, line, answer(alloc, line, world))
 }
 
 // What the lines so far have left for the next ones.
@@ -49,38 +48,62 @@ struct World {
     owners: Owners,
 }
 
+impl World {
+    fn new(alloc: Global) -> World {
+        World {
+            devices: Devices::new(alloc),
+            owners: Owners::empty(alloc),
+        }
+    }
+}
+
 // Each module answers the calls of one crate.
-fn answer(alloc: Global, line: &[u8], world: &mut World) -> Result<Option<String>, Fault> {
+fn answer(alloc: Global, line: &[u8], world: &mut World) -> Result<String, Fault> {
     let call = &read_call(alloc, line)?;
-    if let Some(text) = names::answer(alloc, call)? {
-        return Ok(Some(text));
+    match answer_values(alloc, call) {
+        Err(Fault::Unknown) => {}
+        known => return known,
     }
-    if let Some(text) = lists::answer(alloc, call)? {
-        return Ok(Some(text));
+    match answer_devices(alloc, call, &mut world.devices) {
+        Err(Fault::Unknown) => owners::answer(alloc, call, &mut world.owners),
+        known => known,
     }
-    if let Some(text) = paths::answer(alloc, call)? {
-        return Ok(Some(text));
+}
+
+fn answer_values(alloc: Global, call: &Call) -> Result<String, Fault> {
+    match names::answer(alloc, call) {
+        Err(Fault::Unknown) => {}
+        known => return known,
     }
-    if let Some(text) = words::answer(alloc, call)? {
-        return Ok(Some(text));
+    match lists::answer(alloc, call) {
+        Err(Fault::Unknown) => {}
+        known => return known,
     }
-    if let Some(text) = devices::answer(alloc, call, &mut world.devices)? {
-        return Ok(Some(text));
+    match paths::answer(alloc, call) {
+        Err(Fault::Unknown) => {}
+        known => return known,
     }
-    if let Some(text) = calls::answer(alloc, call, &mut world.devices)? {
-        return Ok(Some(text));
+    match words::answer(alloc, call) {
+        Err(Fault::Unknown) => {}
+        known => return known,
     }
-    if let Some(text) = disk_calls::answer(alloc, call, &mut world.devices)? {
-        return Ok(Some(text));
+    match spellings::answer(alloc, call) {
+        Err(Fault::Unknown) => reports::answer(alloc, call),
+        known => known,
     }
-    if let Some(text) = journal::answer(alloc, call, &mut world.devices)? {
-        return Ok(Some(text));
+}
+
+fn answer_devices(alloc: Global, call: &Call, devices: &mut Devices) -> Result<String, Fault> {
+    match devices::answer(alloc, call, devices) {
+        Err(Fault::Unknown) => {}
+        known => return known,
     }
-    if let Some(text) = spellings::answer(alloc, call)? {
-        return Ok(Some(text));
+    match calls::answer(alloc, call, devices) {
+        Err(Fault::Unknown) => {}
+        known => return known,
     }
-    if let Some(text) = reports::answer(alloc, call)? {
-        return Ok(Some(text));
+    match disk_calls::answer(alloc, call, devices) {
+        Err(Fault::Unknown) => journal::answer(alloc, call, devices),
+        known => known,
     }
-    owners::answer(alloc, call, &mut world.owners)
 }

@@ -14,37 +14,64 @@ use row_script::values::{bytes_of, name_of, path_of, pkg_of, version_of};
 use std::alloc::Global;
 use std::cmp::Ordering;
 
-pub fn answer(alloc: Global, call: &Call) -> Result<Option<String>, Fault> {
-    let answer = match (call.name.as_str(), call.words.as_slice()) {
-        ("Name::read", [word]) => read_name(alloc, word),
-        ("Version::read", [word]) => read_version(alloc, word),
-        ("Pkg::read", [word]) => read_pkg(alloc, word),
-        ("RelPath::read", [word]) => read_path(alloc, word),
-        ("RelPath::fixed", []) => fixed(alloc),
-        ("RelPath::join", [folder, below]) => join(alloc, folder, below),
-        ("RelPath::above", [one, other]) => above(alloc, one, other),
-        ("Pkg::print", [name, version]) => print(alloc, name, version),
-        ("Name::copy", [word]) => copy_name(alloc, word),
-        ("Version::copy", [word]) => copy_version(alloc, word),
-        ("Pkg::copy", [word]) => copy_pkg(alloc, word),
-        ("RelPath::copy", [word]) => copy_path(alloc, word),
-        ("Name::cmp", [one, other]) => compare(alloc, one, other),
-        ("Version::order", [one, other]) => order(alloc, one, other),
-        ("text_order", [one, other]) => order_texts(alloc, one, other),
-        ("Name::is_name", [word]) => answered(alloc, Name::is_name(word.bytes.as_slice())),
-        ("Version::is_version", [word]) => {
-            answered(alloc, Version::is_version(word.bytes.as_slice()))
-        }
-        ("RelPath::is_path", [word]) => answered(alloc, RelPath::is_path(word.bytes.as_slice())),
-        ("sort_by_bytes", words) => sort(alloc, words),
-        ("keep_first_of_each", words) => keep_first(alloc, words),
-        ("rises_by_bytes", words) => rise(alloc, words),
-        ("count_before_bytes", [key, words @ ..]) => count_before(alloc, key, words),
-        ("find_by_bytes", [key, words @ ..]) => find(alloc, key, words),
-        ("has_bytes", [key, words @ ..]) => has(alloc, key, words),
-        _ => return Ok(None),
-    };
-    Ok(Some(answer?))
+pub fn answer(alloc: Global, call: &Call) -> Result<String, Fault> {
+    let name = call.name.as_str();
+    let words = call.words.as_slice();
+    match name {
+        "sort_by_bytes" => sort(alloc, words),
+        "keep_first_of_each" => keep_first(alloc, words),
+        "rises_by_bytes" => rise(alloc, words),
+        "count_before_bytes" => count_before(alloc, words),
+        "find_by_bytes" => find(alloc, words),
+        "has_bytes" => has(alloc, words),
+        _ => answer_few(alloc, name, words),
+    }
+}
+
+// Calls with up to two words.
+fn answer_few(alloc: Global, name: &str, words: &[Word]) -> Result<String, Fault> {
+    match words {
+        [] => answer_bare(alloc, name),
+        [word] => answer_word(alloc, name, word),
+        [one, other] => answer_pair(alloc, name, one, other),
+        _ => Err(Fault::Unknown),
+    }
+}
+
+fn answer_bare(alloc: Global, name: &str) -> Result<String, Fault> {
+    match name {
+        "RelPath::fixed" => fixed(alloc),
+        _ => Err(Fault::Unknown),
+    }
+}
+
+fn answer_word(alloc: Global, name: &str, word: &Word) -> Result<String, Fault> {
+    match name {
+        "Name::read" => read_name(alloc, word),
+        "Version::read" => read_version(alloc, word),
+        "Pkg::read" => read_pkg(alloc, word),
+        "RelPath::read" => read_path(alloc, word),
+        "Name::copy" => copy_name(alloc, word),
+        "Version::copy" => copy_version(alloc, word),
+        "Pkg::copy" => copy_pkg(alloc, word),
+        "RelPath::copy" => copy_path(alloc, word),
+        "Name::is_name" => answered(alloc, Name::is_name(word.bytes.as_slice())),
+        "Version::is_version" => answered(alloc, Version::is_version(word.bytes.as_slice())),
+        "RelPath::is_path" => answered(alloc, RelPath::is_path(word.bytes.as_slice())),
+        _ => Err(Fault::Unknown),
+    }
+}
+
+fn answer_pair(alloc: Global, name: &str, one: &Word, other: &Word) -> Result<String, Fault> {
+    match name {
+        "RelPath::join" => join(alloc, one, other),
+        "RelPath::above" => above(alloc, one, other),
+        "Pkg::print" => print(alloc, one, other),
+        "Name::cmp" => compare(alloc, one, other),
+        "Version::order" => order(alloc, one, other),
+        "text_order" => order_texts(alloc, one, other),
+        _ => Err(Fault::Unknown),
+    }
 }
 
 fn faulty(alloc: Global, fault: ReadFault) -> Result<String, Fault> {
@@ -167,10 +194,14 @@ fn pkgs_of(alloc: Global, words: &[Word]) -> Result<Vec<Pkg>, Fault> {
 fn show_pkgs(alloc: Global, pkgs: &[Pkg]) -> Result<String, Fault> {
     let mut text = String::from_str(alloc, "packages:")?;
     for pkg in pkgs {
-        text.push_str(" ")?;
-        text.push_str(pkg.print(alloc)?.as_str())?;
+        push_pkg(alloc, &mut text, pkg)?;
     }
     Ok(text)
+}
+
+fn push_pkg(alloc: Global, text: &mut String, pkg: &Pkg) -> Result<(), Fault> {
+    text.push_str(" ")?;
+    Ok(text.push_str(pkg.print(alloc)?.as_str())?)
 }
 
 fn sort(alloc: Global, words: &[Word]) -> Result<String, Fault> {
@@ -199,13 +230,19 @@ fn sorted_pkgs(alloc: Global, words: &[Word]) -> Result<Vec<Pkg>, Fault>
     Ok(pkgs)
 }
 
-fn count_before(alloc: Global, key: &Word, words: &[Word]) -> Result<String, Fault> {
+fn count_before(alloc: Global, words: &[Word]) -> Result<String, Fault> {
+    let [key, words @ ..] = words else {
+        return Err(Fault::Unknown);
+    };
     let pkgs = sorted_pkgs(alloc, words)?;
     let count = count_before_bytes(pkgs.as_slice(), key.bytes.as_slice());
     Ok(format!(in alloc; "{count}")?)
 }
 
-fn find(alloc: Global, key: &Word, words: &[Word]) -> Result<String, Fault> {
+fn find(alloc: Global, words: &[Word]) -> Result<String, Fault> {
+    let [key, words @ ..] = words else {
+        return Err(Fault::Unknown);
+    };
     let pkgs = sorted_pkgs(alloc, words)?;
     match find_by_bytes(pkgs.as_slice(), key.bytes.as_slice()) {
         Some(place) => Ok(format!(in alloc; "at {place}")?),
@@ -213,7 +250,10 @@ fn find(alloc: Global, key: &Word, words: &[Word]) -> Result<String, Fault> {
     }
 }
 
-fn has(alloc: Global, key: &Word, words: &[Word]) -> Result<String, Fault> {
+fn has(alloc: Global, words: &[Word]) -> Result<String, Fault> {
+    let [key, words @ ..] = words else {
+        return Err(Fault::Unknown);
+    };
     let pkgs = sorted_pkgs(alloc, words)?;
     answered(alloc, has_bytes(pkgs.as_slice(), key.bytes.as_slice()))
 }

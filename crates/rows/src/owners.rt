@@ -11,20 +11,55 @@ use std::alloc::Global;
 /// No line adds more paths by number.
 const MOST_PATHS: u64 = 2000000;
 
-pub fn answer(alloc: Global, call: &Call, owners: &mut Owners) -> Result<Option<String>, Fault> {
-    let answer = match (call.name.as_str(), call.words.as_slice()) {
-        ("Owners::empty", []) => empty(alloc, owners),
-        ("Owners::reserve", [count]) => reserve(alloc, count, owners),
-        ("Owners::add", [path, owner]) => add(alloc, path, owner, owners),
-        ("Owners::owner", [path]) => owner(alloc, path, owners),
-        ("Owners::len", []) => len(alloc, owners),
-        ("Owners::at", [place]) => at(alloc, place, owners),
-        ("Owners::clash", words) => clash(alloc, words, owners),
-        ("Owners::drop_owner", [owner]) => drop_owner(alloc, owner, owners),
-        ("Owners::large", [count, tests]) => large(alloc, count, tests, owners),
-        _ => return Ok(None),
-    };
-    Ok(Some(answer?))
+pub fn answer(alloc: Global, call: &Call, owners: &mut Owners) -> Result<String, Fault> {
+    let name = call.name.as_str();
+    let words = call.words.as_slice();
+    if name == "Owners::clash" {
+        return clash(alloc, words, owners);
+    }
+    match words {
+        [] => answer_bare(alloc, name, owners),
+        [word] => answer_word(alloc, name, word, owners),
+        [one, other] => answer_pair(alloc, name, one, other, owners),
+        _ => Err(Fault::Unknown),
+    }
+}
+
+fn answer_bare(alloc: Global, name: &str, owners: &mut Owners) -> Result<String, Fault> {
+    match name {
+        "Owners::empty" => empty(alloc, owners),
+        "Owners::len" => len(alloc, owners),
+        _ => Err(Fault::Unknown),
+    }
+}
+
+fn answer_word(
+    alloc: Global,
+    name: &str,
+    word: &Word,
+    owners: &mut Owners,
+) -> Result<String, Fault> {
+    match name {
+        "Owners::reserve" => reserve(alloc, word, owners),
+        "Owners::owner" => owner(alloc, word, owners),
+        "Owners::at" => at(alloc, word, owners),
+        "Owners::drop_owner" => drop_owner(alloc, word, owners),
+        _ => Err(Fault::Unknown),
+    }
+}
+
+fn answer_pair(
+    alloc: Global,
+    name: &str,
+    one: &Word,
+    other: &Word,
+    owners: &mut Owners,
+) -> Result<String, Fault> {
+    match name {
+        "Owners::add" => add(alloc, one, other, owners),
+        "Owners::large" => large(alloc, one, other, owners),
+        _ => Err(Fault::Unknown),
+    }
 }
 
 fn empty(alloc: Global, owners: &mut Owners) -> Result<String, Fault> {
@@ -114,16 +149,29 @@ fn large(alloc: Global, count: &Word, tests: &Word, owners: &mut Owners) -> Resu
     let count = count.number()?.min(MOST_PATHS);
     owners.reserve(count as usize)?;
     for number in 0..count {
-        let owner = numbered_owner(alloc)?;
-        add_path(numbered_path(alloc, "p", number)?, owner, owners)?;
+        add_numbered(alloc, number, owners)?;
     }
-    let mut paths = Vec::new(alloc);
-    for number in 0..tests.number()?.min(MOST_PATHS) {
-        paths.push(numbered_path(alloc, "q", number)?)?;
-    }
-    let found = show_clash(alloc, paths.as_slice(), owners)?;
+    let paths = numbered_paths(alloc, tests.number()?.min(MOST_PATHS))?;
+    show_large(alloc, paths.as_slice(), owners)
+}
+
+fn show_large(alloc: Global, paths: &[RelPath], owners: &Owners) -> Result<String, Fault> {
+    let found = show_clash(alloc, paths, owners)?;
     let len = owners.len();
     Ok(format!(in alloc; "{len} owned, {found}")?)
+}
+
+fn add_numbered(alloc: Global, number: u64, owners: &mut Owners) -> Result<(), Fault> {
+    let path = numbered_path(alloc, "p", number)?;
+    add_path(path, numbered_owner(alloc)?, owners)
+}
+
+fn numbered_paths(alloc: Global, count: u64) -> Result<Vec<RelPath>, Fault> {
+    let mut paths = Vec::new(alloc);
+    for number in 0..count {
+        paths.push(numbered_path(alloc, "q", number)?)?;
+    }
+    Ok(paths)
 }
 
 fn numbered_owner(alloc: Global) -> Result<Pkg, Fault> {

@@ -14,18 +14,29 @@ use std::alloc::Global;
 /// A path, and its place among the words.
 type Numbered = (RelPath, usize);
 
-pub fn answer(alloc: Global, call: &Call) -> Result<Option<String>, Fault> {
-    let answer = match (call.name.as_str(), call.words.as_slice()) {
-        ("are_apart", words) => answered(alloc, are_apart(listed(alloc, words)?.as_slice())),
-        ("place_of", [text, words @ ..]) => find_place(alloc, text, words),
-        ("above_in", [path, words @ ..]) => find_above(alloc, path, words),
-        ("stands_before", [one, other]) => answered(
-            alloc,
-            stands_before(one.bytes.as_slice(), other.bytes.as_slice()),
-        ),
-        _ => return Ok(None),
+pub fn answer(alloc: Global, call: &Call) -> Result<String, Fault> {
+    let words = call.words.as_slice();
+    match call.name.as_str() {
+        "are_apart" => stand_apart(alloc, words),
+        "place_of" => find_place(alloc, words),
+        "above_in" => find_above(alloc, words),
+        "stands_before" => stand_before(alloc, words),
+        _ => Err(Fault::Unknown),
+    }
+}
+
+fn stand_apart(alloc: Global, words: &[Word]) -> Result<String, Fault> {
+    answered(alloc, are_apart(listed(alloc, words)?.as_slice()))
+}
+
+fn stand_before(alloc: Global, words: &[Word]) -> Result<String, Fault> {
+    let [one, other] = words else {
+        return Err(Fault::Unknown);
     };
-    Ok(Some(answer?))
+    answered(
+        alloc,
+        stands_before(one.bytes.as_slice(), other.bytes.as_slice()),
+    )
 }
 
 fn listed(alloc: Global, words: &[Word]) -> Result<Vec<Numbered>, Fault> {
@@ -48,13 +59,19 @@ fn apart(alloc: Global, words: &[Word]) -> Result<Vec<Numbered>, Fault>
     }
 }
 
-fn find_place(alloc: Global, text: &Word, words: &[Word]) -> Result<String, Fault> {
+fn find_place(alloc: Global, words: &[Word]) -> Result<String, Fault> {
+    let [text, words @ ..] = words else {
+        return Err(Fault::Unknown);
+    };
     let list = apart(alloc, words)?;
     let place = place_of(list.as_slice(), text.bytes.as_slice());
     Ok(format!(in alloc; "{place}")?)
 }
 
-fn find_above(alloc: Global, path: &Word, words: &[Word]) -> Result<String, Fault> {
+fn find_above(alloc: Global, words: &[Word]) -> Result<String, Fault> {
+    let [path, words @ ..] = words else {
+        return Err(Fault::Unknown);
+    };
     let path = path_of(alloc, path)?;
     let list = apart(alloc, words)?;
     match above_in(list.as_slice(), &path) {

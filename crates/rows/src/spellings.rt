@@ -9,36 +9,42 @@ use journal_text::{
 };
 use opam_names::{Name, Pkg};
 use row_script::fault::Fault;
-use row_script::lexer::Word;
 use row_script::script::Call;
 use row_script::show::{plain, push_quoted};
 use std::alloc::Global;
 
-pub fn answer(alloc: Global, call: &Call) -> Result<Option<String>, Fault> {
-    let answer = match (call.name.as_str(), call.words.as_slice()) {
-        ("decode", [text]) => read_record(alloc, text.bytes.as_slice()),
-        ("decode_old", [text]) => read_old_record(alloc, text),
-        ("decode_slot", [text]) => read_slot(alloc, text.bytes.as_slice()),
-        ("decode_old_slot", [text]) => read_old_slot(alloc, text),
-        ("decode_broken", [text]) => break_bytes(alloc, Kind::Record, text.bytes.as_slice()),
-        ("decode_slot_broken", [text]) => break_bytes(alloc, Kind::Slot, text.bytes.as_slice()),
-        _ => return Ok(None),
+pub fn answer(alloc: Global, call: &Call) -> Result<String, Fault> {
+    let [text] = call.words.as_slice() else {
+        return Err(Fault::Unknown);
     };
-    Ok(Some(answer?))
+    let bytes = text.bytes.as_slice();
+    match call.name.as_str() {
+        "decode" => read_record(alloc, bytes),
+        "decode_old" => read_old_record(alloc, bytes),
+        "decode_slot" => read_slot(alloc, bytes),
+        "decode_old_slot" => read_old_slot(alloc, bytes),
+        "decode_broken" => break_bytes(alloc, Kind::Record, bytes),
+        "decode_slot_broken" => break_bytes(alloc, Kind::Slot, bytes),
+        _ => Err(Fault::Unknown),
+    }
 }
 
 fn read_record(alloc: Global, bytes: &[u8]) -> Result<String, Fault> {
     match decode(alloc, bytes)? {
         None => plain(alloc, "none"),
-        Some(entry) => {
-            let same = is_written_so(alloc, &entry, bytes)?;
-            shown(show_record(alloc, &entry)?, same)
-        }
+        Some(entry) => show_read_record(alloc, &entry, bytes),
     }
 }
 
-fn read_old_record(alloc: Global, text: &Word) -> Result<String, Fault> {
-    match decode_old(alloc, text.bytes.as_slice())? {
+fn show_read_record(alloc: Global, entry: &Rec, bytes: &[u8]) -> Result<String, Fault>
+    requires { IsSpelledBy entry.now bytes.now }
+{
+    let same = is_written_so(alloc, entry, bytes)?;
+    shown(show_record(alloc, entry)?, same)
+}
+
+fn read_old_record(alloc: Global, bytes: &[u8]) -> Result<String, Fault> {
+    match decode_old(alloc, bytes)? {
         None => plain(alloc, "none"),
         Some(entry) => show_record(alloc, &entry),
     }
@@ -47,15 +53,19 @@ fn read_old_record(alloc: Global, text: &Word) -> Result<String, Fault> {
 fn read_slot(alloc: Global, bytes: &[u8]) -> Result<String, Fault> {
     match decode_slot(alloc, bytes)? {
         None => plain(alloc, "none"),
-        Some(slot) => {
-            let same = is_slot_written_so(alloc, &slot, bytes)?;
-            shown(show_slot(alloc, &slot)?, same)
-        }
+        Some(slot) => show_read_slot(alloc, &slot, bytes),
     }
 }
 
-fn read_old_slot(alloc: Global, text: &Word) -> Result<String, Fault> {
-    match decode_old_slot(alloc, text.bytes.as_slice())? {
+fn show_read_slot(alloc: Global, slot: &Snapshot, bytes: &[u8]) -> Result<String, Fault>
+    requires { IsSlotSpelledBy slot.now bytes.now }
+{
+    let same = is_slot_written_so(alloc, slot, bytes)?;
+    shown(show_slot(alloc, slot)?, same)
+}
+
+fn read_old_slot(alloc: Global, bytes: &[u8]) -> Result<String, Fault> {
+    match decode_old_slot(alloc, bytes)? {
         None => plain(alloc, "none"),
         Some(slot) => show_slot(alloc, &slot),
     }
@@ -92,13 +102,17 @@ fn count_of(len: usize) -> Result<u32, Fault> {
 
 fn slot_in_pieces(alloc: Global, slot: &Snapshot) -> Result<Vec<u8>, Fault> {
     let mut out = Vec::new(alloc);
-    push_slot_front(&mut out, slot.number, count_of(slot.entries.len())?)?;
-    push_entries(&mut out, slot.entries.as_slice())?;
-    push_slot_count(&mut out, count_of(slot.roots.len())?)?;
-    push_root_names(&mut out, slot.roots.as_slice())?;
-    push_slot_count(&mut out, count_of(slot.owned.len())?)?;
-    push_paths(&mut out, slot.owned.as_slice())?;
+    push_pieces(&mut out, slot)?;
     Ok(out)
+}
+
+fn push_pieces(out: &mut Vec<u8>, slot: &Snapshot) -> Result<(), Fault> {
+    push_slot_front(out, slot.number, count_of(slot.entries.len())?)?;
+    push_entries(out, slot.entries.as_slice())?;
+    push_slot_count(out, count_of(slot.roots.len())?)?;
+    push_root_names(out, slot.roots.as_slice())?;
+    push_slot_count(out, count_of(slot.owned.len())?)?;
+    push_paths(out, slot.owned.as_slice())
 }
 
 fn push_root_names(out: &mut Vec<u8>, roots: &[Name]) -> Result<(), Fault> {
@@ -185,42 +199,54 @@ fn byte_is_right(alloc: Global, kind: Kind, front: &[u8], rest: &[u8]) -> Result
 // Whether the bytes spell nothing, or are what is written for that as which they are read.
 fn is_right(alloc: Global, kind: Kind, bytes: &[u8]) -> Result<bool, Fault> {
     match kind {
-        Kind::Record => match decode(alloc, bytes)? {
-            None => Ok(true),
-            Some(entry) => is_written_so(alloc, &entry, bytes),
-        },
-        Kind::Slot => match decode_slot(alloc, bytes)? {
-            None => Ok(true),
-            Some(slot) => is_slot_written_so(alloc, &slot, bytes),
-        },
+        Kind::Record => is_right_record(alloc, bytes),
+        Kind::Slot => is_right_slot(alloc, bytes),
+    }
+}
+
+fn is_right_record(alloc: Global, bytes: &[u8]) -> Result<bool, Fault> {
+    match decode(alloc, bytes)? {
+        None => Ok(true),
+        Some(entry) => is_written_so(alloc, &entry, bytes),
+    }
+}
+
+fn is_right_slot(alloc: Global, bytes: &[u8]) -> Result<bool, Fault> {
+    match decode_slot(alloc, bytes)? {
+        None => Ok(true),
+        Some(slot) => is_slot_written_so(alloc, &slot, bytes),
     }
 }
 
 fn show_record(alloc: Global, entry: &Rec) -> Result<String, Fault> {
     let mut text = String::new(alloc);
+    push_record(&mut text, entry)?;
+    Ok(text)
+}
+
+fn push_record(text: &mut String, entry: &Rec) -> Result<(), Fault> {
     match entry {
         Rec::Install { pkg, opam, files } => {
             text.push_str("install ")?;
-            push_coming(&mut text, pkg, opam.as_slice(), files.as_slice())?;
+            push_coming(text, pkg, opam.as_slice(), files.as_slice())
         }
         Rec::PutBack { pkg, opam, files } => {
             text.push_str("put back ")?;
-            push_coming(&mut text, pkg, opam.as_slice(), files.as_slice())?;
+            push_coming(text, pkg, opam.as_slice(), files.as_slice())
         }
-        Rec::Remove { pkg, kept } => push_removal(&mut text, pkg, kept)?,
+        Rec::Remove { pkg, kept } => push_removal(text, pkg, kept),
         Rec::Begin {
             roots,
             target,
             removals,
         } => push_request(
-            &mut text,
+            text,
             roots.as_slice(),
             target.as_slice(),
             removals.as_slice(),
-        )?,
-        Rec::End => text.push_str("end")?,
+        ),
+        Rec::End => Ok(text.push_str("end")?),
     }
-    Ok(text)
 }
 
 fn push_pkg(text: &mut String, pkg: &Pkg) -> Result<(), Fault> {
@@ -234,12 +260,16 @@ fn push_coming(text: &mut String, pkg: &Pkg, opam: &[u8], files: &[Placed]) -> R
     text.push_str(" with ")?;
     push_quoted(text, opam)?;
     for file in files {
-        text.push_str(", ")?;
-        text.push_str(file.path.as_str())?;
-        text.push_str(if file.exec { " runs " } else { " has " })?;
-        push_quoted(text, file.bytes.as_slice())?;
+        push_file(text, file)?;
     }
     Ok(())
+}
+
+fn push_file(text: &mut String, file: &Placed) -> Result<(), Fault> {
+    text.push_str(", ")?;
+    text.push_str(file.path.as_str())?;
+    text.push_str(if file.exec { " runs " } else { " has " })?;
+    push_quoted(text, file.bytes.as_slice())
 }
 
 fn push_removal(text: &mut String, pkg: &Pkg, kept: &Option<KeptFiles>) -> Result<(), Fault> {
@@ -290,13 +320,22 @@ fn push_target(text: &mut String, target: &[Entry]) -> Result<(), Fault> {
 fn show_slot(alloc: Global, slot: &Snapshot) -> Result<String, Fault> {
     let number = slot.number;
     let mut text = format!(in alloc; "slot {number}")?;
-    push_target(&mut text, slot.entries.as_slice())?;
-    push_roots(&mut text, slot.roots.as_slice())?;
-    for owned in slot.owned.as_slice() {
-        let owner = owned.owner;
-        text.push_str(", ")?;
-        text.push_str(owned.path.as_str())?;
-        write!(&mut text, " of {owner}")?;
-    }
+    push_slot(&mut text, slot)?;
     Ok(text)
+}
+
+fn push_slot(text: &mut String, slot: &Snapshot) -> Result<(), Fault> {
+    push_target(text, slot.entries.as_slice())?;
+    push_roots(text, slot.roots.as_slice())?;
+    for owned in slot.owned.as_slice() {
+        push_owned(text, owned)?;
+    }
+    Ok(())
+}
+
+fn push_owned(text: &mut String, owned: &Owned) -> Result<(), Fault> {
+    let owner = owned.owner;
+    text.push_str(", ")?;
+    text.push_str(owned.path.as_str())?;
+    Ok(write!(text, " of {owner}")?)
 }

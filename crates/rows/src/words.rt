@@ -7,27 +7,39 @@ use row_script::script::{Call, strings};
 use row_script::show::{plain, quoted};
 use std::alloc::Global;
 
-pub fn answer(alloc: Global, call: &Call) -> Result<Option<String>, Fault> {
-    let answer = match call.name.as_str() {
+pub fn answer(alloc: Global, call: &Call) -> Result<String, Fault> {
+    match call.name.as_str() {
         "read_words" => read(alloc, call.words.as_slice()),
-        _ => return Ok(None),
-    };
-    Ok(Some(answer?))
+        _ => Err(Fault::Unknown),
+    }
 }
 
 fn read(alloc: Global, words: &[Word]) -> Result<String, Fault> {
     let words = strings(alloc, words)?;
     match read_words(alloc, words.as_slice()) {
-        Ok(Command::Change(change)) => show_change(alloc, &change),
-        Ok(Command::Query(query)) => show_query(alloc, &query),
-        Err(WordFault::Memory) => Err(Fault::Memory),
-        Err(fault) => refused(alloc, &fault),
+        Ok(command) => show_command(alloc, &command),
+        Err(fault) => show_fault(alloc, &fault),
+    }
+}
+
+fn show_fault(alloc: Global, fault: &WordFault) -> Result<String, Fault> {
+    match fault {
+        WordFault::Memory => Err(Fault::Memory),
+        _ => refused(alloc, fault),
     }
 }
 
 fn refused(alloc: Global, fault: &WordFault) -> Result<String, Fault> {
-    let text = quoted(alloc, fault.text(alloc)?.as_bytes())?;
+    let text = fault.text(alloc)?;
+    let text = quoted(alloc, text.as_bytes())?;
     Ok(format!(in alloc; "refused, {text}")?)
+}
+
+fn show_command(alloc: Global, command: &Command) -> Result<String, Fault> {
+    match command {
+        Command::Change(change) => show_change(alloc, change),
+        Command::Query(query) => show_query(alloc, query),
+    }
 }
 
 fn show_change(alloc: Global, change: &Change) -> Result<String, Fault> {

@@ -6,11 +6,12 @@ mod runs;
 #[cfg(test)]
 mod tests;
 
-use row_script::answers::{as_it_is, stands_for_itself, with_answer};
+use row_script::answers::{as_it_is, stands_for_itself, with_answer, write_line};
 use row_script::devices::Devices;
 use row_script::fault::Fault;
 use row_script::script::read_call;
 use row_script::{devices, disk_calls};
+use std::alloc::AllocError;
 use std::io;
 use std::io::{BufRead, BufReader, BufWriter, Write};
 use std::sync::Wait;
@@ -21,16 +22,23 @@ fn main(rt: HostRuntime) -> io::Result<()> {
     let mut devices = Devices::new(alloc);
     let mut out = BufWriter::new(alloc, io::writer(&rt))?;
     for line in BufReader::new(alloc, rt.reader())?.split(alloc, b'\n') {
-        let line = line?;
-        let line = line.as_slice();
-        let text = if stands_for_itself(line) {
-            as_it_is(alloc, line)?
-        } else {
-            with_answer(alloc, line, answer(&rt, line, &mut devices))?
-        };
-        writeln!(out, "{text}")?;
+        let text = reply(&rt, line?.as_slice(), &mut devices)?;
+        write_line(&mut out, text.as_str())?;
     }
     out.flush()
+}
+
+// What is printed for a line.
+fn reply<R: Threads + Wait + AllocGlobal + Clone + Send + Sync + Drop + 'static>(
+    rt: &R,
+    line: &[u8],
+    devices: &mut Devices,
+) -> Result<String, AllocError> {
+    let alloc = rt.alloc();
+    if stands_for_itself(line) {
+        return as_it_is(alloc, line);
+    }
+    with_answer(alloc, line, answer(rt, line, devices))
 }
 
 // A run, a line that says what a device is made of, or a look at the disk.
@@ -38,14 +46,15 @@ fn answer<R: Threads + Wait + AllocGlobal + Clone + Send + Sync + Drop + 'static
     rt: &R,
     line: &[u8],
     devices: &mut Devices,
-) -> Result<Option<String>, Fault> {
+) -> Result<String, Fault> {
     let alloc = rt.alloc();
     let call = &read_call(alloc, line)?;
-    if let Some(text) = runs::answer(rt, call, devices)? {
-        return Ok(Some(text));
+    match runs::answer(rt, call, devices) {
+        Err(Fault::Unknown) => {}
+        known => return known,
     }
-    if let Some(text) = devices::answer(alloc, call, devices)? {
-        return Ok(Some(text));
+    match devices::answer(alloc, call, devices) {
+        Err(Fault::Unknown) => disk_calls::answer(alloc, call, devices),
+        known => known,
     }
-    disk_calls::answer(alloc, call, devices)
 }
