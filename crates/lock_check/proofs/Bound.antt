@@ -120,14 +120,6 @@ bound_rises rising values items bound sorted is order none =
     let P : List Pkg → Type 0 = λ pkgs. Rises pkgs in
     subst P (sym (order ∙ ap (in_order_by (λ (pkg : Pkg). pkg.name)) is)) (rising (bound_in values items) (bound_once values items none))
 
--- one value more of a map
-pub mapped_on : {X Y : Type 0} (f : X → Y) (so_far now : List Y) (y : Y) (whole : List Y) (xs : List X) (i : ℕ) (x : X) → i < length xs → x ≡ get_or xs i x → y ≡ f x
-    → now ≡ so_far ++ y ∷ [] → so_far ++ map f (drop i xs) ≡ whole → now ++ map f (drop (i + 1) xs) ≡ whole
-mapped_on f so_far now y whole xs i x within is y_is now_is so =
-    let rest = map f (drop (i + 1) xs) in
-    ap (λ ys. ys ++ rest) now_is ∙ append_assoc so_far (y ∷ []) rest
-    ∙ ap (λ z. so_far ++ z ∷ rest) (y_is ∙ ap f is) ∙ ap (λ zs. so_far ++ map f zs) (sym (drop_more xs i x within)) ∙ so
-
 -- all pass where all answers are so
 pub all_passed : {X : Type 0} (test : X → Bool) (xs : List X) → list_all (λ flag. flag) (map test xs) ≡ list_all test xs
 all_passed test [] = refl

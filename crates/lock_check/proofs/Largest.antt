@@ -43,7 +43,7 @@ module _ (monotone : HoldingIsMonotone) where
   needs_on set more sub (need ∷ needs) is =
       and_on (is_need_met set need) (list_all (is_need_met set) needs) (is_need_met more need) (list_all (is_need_met more) needs) (need_on set more sub need) (needs_on set more sub needs) is
 
-  mono : (member : Member) (set more : List Pkg) → Sub set more → IsTrue (is_met_among set member.package) → IsTrue (is_met_among more member.package)
+  pub mono : (member : Member) (set more : List Pkg) → Sub set more → IsTrue (is_met_among set member.package) → IsTrue (is_met_among more member.package)
   mono member set more sub is = needs_on set more sub member.package.items is
 
   unique : (from : List Member) → IsDistinct bytes_eq (map member_name from) → (x y : Member) → Contains from x → Contains from y → pkg_of x ≡ pkg_of y → x ≡ y

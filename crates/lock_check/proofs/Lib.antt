@@ -10,3 +10,11 @@ pub mod Distinct
 pub mod Largest
 pub mod Passing
 pub mod Removed
+pub mod Lookups
+pub mod Among
+pub mod Growing
+pub mod Rising
+pub mod Standing
+pub mod Undoing
+pub mod TargetLaws
+pub mod Differing

@@ -1,9 +1,9 @@
 -- Members in the byte order of their names, and their packages.
 use Rattle.std.proofs.Common.{◌≡◌, ℕ, ◌+◌, ◌<◌, List, [], ◌∷◌, ◌++◌, length, get_or, drop, map, filter, Bool, true, false, not, ◌||◌, if◌then◌else◌, refl, sym, ◌∙◌, ap, subst}
 use Rattle.std.specs.Prelude.{bytes_eq}
-use Rattle.std.specs.List.{IsDistinct, list_any}
+use Rattle.std.specs.List.{IsDistinct, flat_map, list_any}
 use Rattle.std.specs.List.Sorted.{IsStrictlySortedBy}
-use Rattle.std.specs.Result.{IfOk}
+use Rattle.std.specs.Result.{IfOk, OnErr, OnOk}
 use Rattle.std.specs.declared.result.Result.{Result}
 use Rattle.std.specs.declared.result.Result.TheVariants.{Ok, Err}
 use Rattle.std.proofs.lemmas.List.{append_assoc, drop_more}
@@ -12,7 +12,9 @@ use Rattle.opam_names.specs.ByteOrderLaws.{NeverFallsBy-from_rises}
 use Rattle.opam_names.specs.declared.packages.Pkg.{Pkg}
 use Rattle.opam_filter.specs.Sets.{Rises}
 use Rattle.opam_package.specs.declared.package.Member.{Member}
+use Rattle.lock_check.specs.declared.held.Held.{Held}
 use Rattle.lock_check.specs.declared.targets.Named.{Named}
+use Rattle.lock_check.specs.Chased.{has_pkg, held_name, held_of, told_unbound, told_unbounds}
 use Rattle.lock_check.specs.Found.{absents_in, is_name_in}
 use Rattle.lock_check.specs.Targets.{by_name, has_member, member_name, told_absent, told_absents}
 use Rattle.lock_check.specs.Violations.{pkgs_of}
@@ -111,14 +113,17 @@ pub copies_sorted : (members sorted : List Member) (copies ordered : List Named)
     → sorted ≡ map inner ordered → sorted ≡ by_name members
 copies_sorted members sorted copies ordered of order is = is ∙ ap (map inner) order ∙ inner_order copies ∙ ap by_name of
 
-pub copies_rise : ((xs : List Named) → IsDistinct bytes_eq (map inner_name xs) → RisesBy inner_name (in_order_by inner_name xs))
-    → (members sorted : List Member) (copies ordered : List Named) → map inner copies ≡ members → ordered ≡ in_order_by inner_name copies
-    → sorted ≡ map inner ordered → IsDistinct bytes_eq (map member_name members) → RisesBy member_name sorted
-copies_rise rising members sorted copies ordered of order is distinct =
+pub copies_differ : (members : List Member) (copies : List Named) → map inner copies ≡ members → IsDistinct bytes_eq (map member_name members) → IsDistinct bytes_eq (map inner_name copies)
+copies_differ members copies of distinct =
     let D : List (List ℕ) → Type 0 = λ names. IsDistinct bytes_eq names in
+    subst D (sym (inner_names copies ∙ ap (map member_name) of)) distinct
+
+pub copies_rise_so : ((xs : List Named) → IsDistinct bytes_eq (map inner_name xs) → RisesBy inner_name (in_order_by inner_name xs))
+    → (sorted : List Member) (copies ordered : List Named) → ordered ≡ in_order_by inner_name copies
+    → sorted ≡ map inner ordered → IsDistinct bytes_eq (map inner_name copies) → RisesBy member_name sorted
+copies_rise_so rising sorted copies ordered order is distinct =
     let R : List (List ℕ) → Type 0 = λ names. IsStrictlySortedBy byte_order names in
-    let up = rising copies (subst D (sym (inner_names copies ∙ ap (map member_name) of)) distinct) in
-    subst R (inner_names (in_order_by inner_name copies) ∙ ap (map member_name) (ap (map inner) (sym order) ∙ sym is)) up
+    subst R (inner_names (in_order_by inner_name copies) ∙ ap (map member_name) (ap (map inner) (sym order) ∙ sym is)) (rising copies distinct)
 
 -- the packages in order rise where the names of the members differ
 pub sorted_rise : ((xs : List Pkg) → IsDistinct bytes_eq (map (λ (pkg : Pkg). pkg.name) xs) → Rises (in_order_by (λ (pkg : Pkg). pkg.name) xs))
@@ -127,6 +132,19 @@ sorted_rise rising members set order distinct =
     let D : List (List ℕ) → Type 0 = λ names. IsDistinct bytes_eq names in
     let R : List Pkg → Type 0 = λ pkgs. Rises pkgs in
     subst R (sym order) (rising (pkgs_of members) (subst D (sym (same_names members)) distinct))
+
+same_held : (members : List Member) → map held_name (map held_of members) ≡ map member_name members
+same_held [] = refl
+same_held (member ∷ members) = ap (λ names. member_name member ∷ names) (same_held members)
+
+-- what is kept in mind of members rises once it is in order
+pub held_rise : ((xs : List Held) → IsDistinct bytes_eq (map held_name xs) → RisesBy held_name (in_order_by held_name xs))
+    → (members : List Member) (held sorted : List Held) → held ≡ map held_of members → sorted ≡ in_order_by held_name held → IsDistinct bytes_eq (map member_name members)
+    → RisesBy held_name sorted
+held_rise rising members held sorted of order distinct =
+    let D : List (List ℕ) → Type 0 = λ names. IsDistinct bytes_eq names in
+    let R : List Held → Type 0 = λ xs. RisesBy held_name xs in
+    subst R (sym (order ∙ ap (in_order_by held_name) of)) (rising (map held_of members) (subst D (sym (same_held members)) distinct))
 
 -- ---- what is said of a result that is Ok
 
@@ -138,6 +156,14 @@ pub ok_both : {X E : Type 0} {P Q R : X → Type 0} (r : Result X E) → ((x : X
 ok_both (Ok x) on one other = on x one other
 ok_both (Err e) on one other = tt
 
+pub on_ok : {X E : Type 0} {P : Type 0} (r : Result X E) → P → OnOk r P
+on_ok (Ok x) is = is
+on_ok (Err e) is = tt
+
+pub on_err : {X E : Type 0} {P : Type 0} (r : Result X E) → P → OnErr r P
+on_err (Ok x) is = tt
+on_err (Err e) is = is
+
 -- ---- lists that are made part by part
 
 -- what is made of one value more, and then of those that are left
@@ -148,6 +174,22 @@ parts_on made part so_far now whole xs i x within is now_is so =
     let rest = drop (i + 1) xs in
     ap (λ ys. ys ++ made rest) now_is ∙ append_assoc so_far (made (x ∷ [])) (made rest)
     ∙ ap (λ ys. so_far ++ ys) (sym (part x rest) ∙ ap (λ z. made (z ∷ rest)) is ∙ ap made (sym (drop_more xs i x within))) ∙ so
+
+-- one value more of a map
+pub mapped_on : {X Y : Type 0} (f : X → Y) (so_far now : List Y) (y : Y) (whole : List Y) (xs : List X) (i : ℕ) (x : X) → i < length xs → x ≡ get_or xs i x → y ≡ f x
+    → now ≡ so_far ++ y ∷ [] → so_far ++ map f (drop i xs) ≡ whole → now ++ map f (drop (i + 1) xs) ≡ whole
+mapped_on f so_far now y whole xs i x within is y_is now_is so =
+    let rest = map f (drop (i + 1) xs) in
+    ap (λ ys. ys ++ rest) now_is ∙ append_assoc so_far (y ∷ []) rest
+    ∙ ap (λ z. so_far ++ z ∷ rest) (y_is ∙ ap f is) ∙ ap (λ zs. so_far ++ map f zs) (sym (drop_more xs i x within)) ∙ so
+
+-- what is made of one value more joins what there is
+pub flat_on : {X Y : Type 0} (f : X → List Y) (so_far now here : List Y) (whole : List Y) (xs : List X) (i : ℕ) (x : X) → i < length xs → x ≡ get_or xs i x → here ≡ f x
+    → now ≡ so_far ++ here → so_far ++ flat_map f (drop i xs) ≡ whole → now ++ flat_map f (drop (i + 1) xs) ≡ whole
+flat_on f so_far now here whole xs i x within is here_is now_is so =
+    let rest = flat_map f (drop (i + 1) xs) in
+    ap (λ ys. ys ++ rest) now_is ∙ append_assoc so_far here rest
+    ∙ ap (λ ys. so_far ++ (ys ++ rest)) (here_is ∙ ap f is) ∙ ap (λ zs. so_far ++ flat_map f zs) (sym (drop_more xs i x within)) ∙ so
 
 pub filter_parts : {X : Type 0} (test : X → Bool) (x : X) (xs : List X) → filter test (x ∷ xs) ≡ filter test (x ∷ []) ++ filter test xs
 filter_parts test x xs = by (test x)
@@ -161,6 +203,14 @@ absent_parts set x xs = by (not (is_name_in set x))
   where
     by : (b : Bool) → map told_absent (if b then x ∷ filter (λ name. not (is_name_in set name)) xs else filter (λ name. not (is_name_in set name)) xs)
         ≡ map told_absent (if b then x ∷ [] else []) ++ absents_in set xs
+    by true = refl
+    by false = refl
+
+pub unbound_parts : (bound : List Pkg) (x : List ℕ) (xs : List (List ℕ)) → told_unbounds bound (x ∷ xs) ≡ told_unbounds bound (x ∷ []) ++ told_unbounds bound xs
+unbound_parts bound x xs = by (not (has_pkg bound x))
+  where
+    by : (b : Bool) → map told_unbound (if b then x ∷ filter (λ name. not (has_pkg bound name)) xs else filter (λ name. not (has_pkg bound name)) xs)
+        ≡ map told_unbound (if b then x ∷ [] else []) ++ told_unbounds bound xs
     by true = refl
     by false = refl
 

@@ -6,3 +6,12 @@ pub mod Targets
 pub mod Found
 pub mod Removals
 pub mod Passes
+pub mod Needed
+pub mod Chased
+pub mod Growth
+pub mod Chasing
+pub mod Installs
+pub mod Progressing
+pub mod Made
+pub mod Given
+pub mod TargetLaws

@@ -129,10 +129,18 @@ bound_pkgs false pkg = []
 bound_pkgs true None = []
 bound_pkgs true (Some pkg) = pkg ∷ []
 
+-- the package that an item binds
+abbrev pub bound_by_item : Values → Node → List Pkg
+bound_by_item values item = bound_pkgs (is_binding values item) (item_pkg item)
+
 -- the packages that items bind, in their order
 abbrev pub bound_in : Values → List Node → List Pkg
-bound_in values items = flat_map (λ item. bound_pkgs (is_binding values item) (item_pkg item)) items
+bound_in values items = flat_map (bound_by_item values) items
+
+-- the same in the byte order of their names
+abbrev pub bound_in_order : Values → List Node → List Pkg
+bound_in_order values items = in_order_by (λ pkg. pkg.name) (bound_in values items)
 
 -- those that a lock binds, in the byte order of their names
 abbrev pub bound_by : Values → Option Node → List Pkg
-bound_by values field = in_order_by (λ pkg. pkg.name) (bound_in values (lock_items field))
+bound_by values field = bound_in_order values (lock_items field)

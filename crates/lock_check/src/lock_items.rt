@@ -309,7 +309,7 @@ fn bind_item(
     bound: &mut Items<Pkg>,
 ) -> Result<(), OutOfMemory>
     requires { items.further_faults item.now ≡ [] }
-    ensures { OnOk result (bound.new ≡ bound.old ++ items.bound_pkgs (items.is_binding globals.now item.now) (items.item_pkg item.now)) }
+    ensures { OnOk result (bound.new ≡ bound.old ++ items.bound_by_item globals.now item.now) }
 {
     if !is_binding(alloc, item, globals)? {
         return Ok(());

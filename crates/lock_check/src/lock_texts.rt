@@ -1,9 +1,8 @@
 // Lock files: what they bind, and what is wrong with them.
 ghost use Rattle.std.specs.Prelude.{[], ◌≡◌, ◌≤◌, IfErr, IfOk, OnOk, length};
-ghost use Rattle.opam_names.specs.ByteOrders.{in_order_by};
 ghost use Rattle.opam_filter.specs.Sets.{Rises};
 ghost use Rattle.lock_check.specs.LockFaults.{IsFirstLockFault};
-ghost use Rattle.lock_check.specs.LockItems.{bound_in, faults_behind, lock_items};
+ghost use Rattle.lock_check.specs.LockItems.{bound_in_order, faults_behind, lock_items};
 ghost use Rattle.lock_check.specs.LockTexts.{IsLockFault, IsLockOf, depends_of, told_lock_syntax};
 
 use crate::lock_items::{bind_items, items_fault, values_of};
@@ -25,7 +24,7 @@ fn lock_items(file: &File) -> &[Node]
 // What a lock binds whose items have no fault.
 fn bind_lock(alloc: Global, items: &[Node], globals: &Vars) -> Result<Lock, OutOfMemory>
     requires { faults_behind [] items.now ≡ [] }
-    ensures ok { IfOk result (λ lock. lock.bound ≡ in_order_by (λ pkg. pkg.name) (bound_in globals.now items.now)) }
+    ensures ok { IfOk result (λ lock. lock.bound ≡ bound_in_order globals.now items.now) }
     ensures rises { IfOk result (λ lock. Rises lock.bound) }
 {
     order_is_stable::<Pkg>();
@@ -36,7 +35,7 @@ fn bind_lock(alloc: Global, items: &[Node], globals: &Vars) -> Result<Lock, OutO
 
 // What a file binds whose items are these.
 fn lock_of(alloc: Global, items: &[Node], globals: &Vars) -> Result<Lock, LockFault>
-    ensures ok { IfOk result (λ lock. lock.bound ≡ in_order_by (λ pkg. pkg.name) (bound_in globals.now items.now)) }
+    ensures ok { IfOk result (λ lock. lock.bound ≡ bound_in_order globals.now items.now) }
     ensures sound { OnOk result (faults_behind [] items.now ≡ []) }
     ensures rises { IfOk result (λ lock. Rises lock.bound) }
     ensures err { IfErr result (λ fault. IsFirstLockFault (faults_behind [] items.now) fault) }

@@ -1,9 +1,9 @@
 // The largest part of members in which all items of each are met.
-ghost use Rattle.std.specs.Prelude.{◌≡◌, IfOk, OnOk, bytes_eq, false, filter, map, not};
+ghost use Rattle.std.specs.Prelude.{◌≡◌, IfOk, OnOk, bytes_eq, false, map};
 ghost use Rattle.std.specs.List.{IsDistinct};
 ghost use Rattle.opam_names.specs.ByteOrders.{in_order_by};
 ghost use Rattle.opam_filter.specs.Sets.{Rises};
-ghost use Rattle.lock_check.specs.Passes.{Judges, pass_after, set_after};
+ghost use Rattle.lock_check.specs.Passes.{Judges, pass_after, set_after, set_without};
 ghost use Rattle.lock_check.specs.Removals as removals;
 ghost use Rattle.lock_check.specs.Targets.{member_name};
 ghost use Rattle.lock_check.specs.Violations as violations;
@@ -23,7 +23,7 @@ pub(crate) struct Pass {
 }
 
 fn drop_pkg(set: &mut Vec<Pkg>, name: &Name)
-    ensures { set.new.items ≡ filter (λ (pkg : Pkg). not (bytes_eq pkg.name name.now)) set.old.items }
+    ensures { set.new.items ≡ set_without set.old.items name.now }
 {
     set.retain(|pkg| pkg.name != *name);
 }
@@ -80,7 +80,8 @@ fn settle(alloc: Global, members: &[Member], set: &mut Vec<Pkg>) -> Result<Pass,
 }
 
 fn sorted_pkgs(alloc: Global, members: &[Member]) -> Result<Vec<Pkg>, OutOfMemory>
-    ensures { IfOk result (λ set. set.items ≡ in_order_by (λ (pkg : Pkg). pkg.name) (violations.pkgs_of members.now)) }
+    ensures { IfOk result (λ set. set.items
+        ≡ in_order_by (λ (pkg : Pkg). pkg.name) (violations.pkgs_of members.now)) }
 {
     let mut set = pkgs_of(alloc, members)?.into_vec();
     sort_by_bytes(&mut set)?;

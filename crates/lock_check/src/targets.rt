@@ -4,21 +4,22 @@ ghost use Rattle.std.specs.List.{IsDistinct, list_any};
 ghost use Rattle.opam_names.specs.ByteOrders.{NeverFallsBy, RisesBy, each_once};
 ghost use Rattle.lock_check.specs.Removals.{IsRemoved, not_named, remove_violations};
 ghost use Rattle.lock_check.specs.Found.{absents_in, is_name_in};
+ghost use Rattle.lock_check.specs.Installs.{inner, named_name};
 ghost use Rattle.lock_check.specs.Targets.{by_name, member_name, reinstall_violations, reinstalled, told_absents};
 ghost use Rattle.lock_check.specs.Violations as violations;
 
 use crate::removal::largest_met;
-use crate::violations::tell_installed;
+use crate::violations::tell_members;
 use crate::{Violation, What, Who};
 use opam_names::{ByteKey, Items, Name, OutOfMemory, Pkg, has_bytes, order_is_stable, texts_rise};
 use opam_package::{Member, Target};
 use std::alloc::Global;
 use std::collections::BTreeSet;
 
-// A member that stands by its name.
+/// A member that stands by its name.
 #[derive(Drop)]
-struct Named {
-    member: Member,
+pub(crate) struct Named {
+    pub(crate) member: Member,
 }
 
 impl ByteKey for Named {
@@ -32,7 +33,7 @@ impl ByteKey for Named {
 }
 
 fn copy_members(alloc: Global, members: &[Member]) -> Result<Items<Named>, OutOfMemory>
-    ensures { IfOk result (λ copies. map (λ (copy : Named). copy.member) copies ≡ members.now) }
+    ensures { IfOk result (λ copies. map inner copies ≡ members.now) }
 {
     let mut copies = Items::new(alloc);
     for member in members {
@@ -44,7 +45,7 @@ fn copy_members(alloc: Global, members: &[Member]) -> Result<Items<Named>, OutOf
 }
 
 fn members_of(alloc: Global, copies: Items<Named>) -> Result<Items<Member>, OutOfMemory>
-    ensures { IfOk result (λ members. members ≡ map (λ (copy : Named). copy.member) copies) }
+    ensures { IfOk result (λ members. members ≡ map inner copies) }
 {
     let mut members = Items::new(alloc);
     for copy in copies.into_vec() {
@@ -53,15 +54,25 @@ fn members_of(alloc: Global, copies: Items<Named>) -> Result<Items<Member>, OutO
     Ok(members)
 }
 
+/// The members in byte order of their names.
+pub(crate) fn sort_named(alloc: Global, copies: Items<Named>) -> Result<Items<Member>, OutOfMemory>
+    requires { IsDistinct bytes_eq (map named_name copies) }
+    ensures sorted { IfOk result (λ sorted. sorted ≡ by_name (map inner copies)) }
+    ensures rises { IfOk result (λ sorted. RisesBy member_name sorted) }
+{
+    order_is_stable::<Named>();
+    let mut ordered = copies;
+    ordered.sort_by_bytes()?;
+    members_of(alloc, ordered)
+}
+
 pub(crate) fn sort_members(alloc: Global, members: &[Member]) -> Result<Items<Member>, OutOfMemory>
     requires { IsDistinct bytes_eq (map member_name members.now) }
     ensures sorted { IfOk result (λ sorted. sorted ≡ by_name members.now) }
     ensures rises { IfOk result (λ sorted. RisesBy member_name sorted) }
 {
-    order_is_stable::<Named>();
-    let mut copies = copy_members(alloc, members)?;
-    copies.sort_by_bytes()?;
-    members_of(alloc, copies)
+    let copies = copy_members(alloc, members)?;
+    sort_named(alloc, copies)
 }
 
 pub(crate) fn pkgs_of(alloc: Global, members: &[Member]) -> Result<Items<Pkg>, OutOfMemory>
@@ -88,7 +99,8 @@ fn note_found(
     found: &mut Items<Name>,
 ) -> Result<(), OutOfMemory>
     requires { NeverFallsBy (λ (pkg : Pkg). pkg.name) set.now }
-    ensures { OnOk result (found.new ≡ found.old ++ filter (is_name_in set.now) (name.now ∷ [])) }
+    ensures { OnOk result (found.new
+        ≡ found.old ++ filter (is_name_in set.now) (name.now ∷ [])) }
 {
     if has_name(set, name) {
         found.push(name.copy(alloc)?)?;
@@ -97,7 +109,11 @@ fn note_found(
 }
 
 // The names of packages in the set.
-fn names_in(alloc: Global, set: &[Pkg], names: &[Name]) -> Result<Items<Name>, OutOfMemory>
+pub(crate) fn names_in(
+    alloc: Global,
+    set: &[Pkg],
+    names: &[Name],
+) -> Result<Items<Name>, OutOfMemory>
     requires { NeverFallsBy (λ (pkg : Pkg). pkg.name) set.now }
     ensures { IfOk result (λ found. found ≡ filter (is_name_in set.now) names.now) }
 {
@@ -148,12 +164,13 @@ pub fn reinstall_target(
 ) -> Result<(Target, Items<Violation>), OutOfMemory>
     requires { IsDistinct bytes_eq (map member_name installed.now) }
     ensures target { IfOk result (λ made. made.0 ≡ reinstalled installed.now names.now roots.now) }
-    ensures violations { IfOk result (λ made. made.1 ≡ reinstall_violations installed.now names.now) }
+    ensures violations { IfOk result (λ made. made.1
+        ≡ reinstall_violations installed.now names.now) }
 {
     let members = sort_members(alloc, installed)?;
     let set = pkgs_of(alloc, members.as_slice())?;
     let mut told = absents(alloc, set.as_slice(), names)?;
-    tell_installed(alloc, members.as_slice(), set.as_slice(), &mut told)?;
+    tell_members(alloc, members.as_slice(), set.as_slice(), &[], &mut told)?;
     told.sort_by_bytes()?;
     let target = Target {
         redo: names_in(alloc, set.as_slice(), names)?,
@@ -164,7 +181,7 @@ pub fn reinstall_target(
     Ok((target, told))
 }
 
-fn name_set(alloc: Global, names: &[Name]) -> Result<BTreeSet<Name>, OutOfMemory>
+pub(crate) fn name_set(alloc: Global, names: &[Name]) -> Result<BTreeSet<Name>, OutOfMemory>
     ensures { IfOk result (λ set. set.keys ≡ each_once names.now) }
 {
     let mut set = BTreeSet::new(alloc);
@@ -234,13 +251,14 @@ pub fn remove_target(
 ) -> Result<(Target, Items<Violation>), OutOfMemory>
     requires { IsDistinct bytes_eq (map member_name installed.now) }
     ensures target { IfOk result (λ made. IsRemoved installed.now names.now roots.now made.0) }
-    ensures violations { IfOk result (λ made. made.1 ≡ remove_violations installed.now names.now made.0.members) }
+    ensures violations { IfOk result (λ made. made.1
+        ≡ remove_violations installed.now names.now made.0.members) }
 {
     let others = not_named(alloc, installed, names)?;
     let members = largest_met(alloc, others.as_slice())?;
     let set = pkgs_of(alloc, members.as_slice())?;
     let mut told = absents_of(alloc, installed, names)?;
-    tell_installed(alloc, members.as_slice(), set.as_slice(), &mut told)?;
+    tell_members(alloc, members.as_slice(), set.as_slice(), &[], &mut told)?;
     told.sort_by_bytes()?;
     let target = Target {
         redo: Items::new(alloc),

@@ -2,7 +2,7 @@
 ghost use Rattle.std.specs.Prelude.{[], ◌≡◌, ◌++◌, IfOk, OnOk, bytes_eq, find, map};
 ghost use Rattle.std.specs.List.{list_any};
 ghost use Rattle.std.specs.Option.{option_copied};
-ghost use Rattle.opam_names.specs.ByteOrders.{NeverFallsBy};
+ghost use Rattle.opam_names.specs.ByteOrders.{NeverFallsBy, has_key};
 ghost use Rattle.opam_filter.specs.Sets.{Rises};
 ghost use Rattle.lock_check.specs.Violations as violations;
 ghost use Rattle.lock_check.specs.Violations.{pkgs_of, told_of};
@@ -10,7 +10,7 @@ ghost use Rattle.lock_check.specs.declared.violation.What.TheVariants as kinds;
 
 use crate::{Violation, What, Who};
 use opam_filter::holds;
-use opam_names::{Items, OutOfMemory, Pkg, Text};
+use opam_names::{Items, Name, OutOfMemory, Pkg, Text, has_bytes};
 use opam_package::{Member, Need, Package, forbids};
 use std::alloc::Global;
 use std::collections::BTreeSet;
@@ -69,7 +69,8 @@ fn note_conflicts(
     dependent: &Package,
     whats: &mut Items<What>,
 ) -> Result<(), OutOfMemory>
-    ensures { OnOk result (whats.new ≡ whats.old ++ violations.conflicts_among set.now dependent.now) }
+    ensures { OnOk result (whats.new
+        ≡ whats.old ++ violations.conflicts_among set.now dependent.now) }
 {
     for other in set {
         if forbids(dependent, other) {
@@ -99,7 +100,8 @@ fn shares_class(dependent: &Package, class: &Text, member: &Member) -> bool
 
 // The least other member that has the class.
 fn sharer<'a>(members: &'a [Member], dependent: &Package, class: &Text) -> Option<&'a Member>
-    ensures { option_copied result ≡ find (violations.shares_class dependent.now class.now) members.now }
+    ensures { option_copied result
+        ≡ find (violations.shares_class dependent.now class.now) members.now }
 {
     for member in members {
         if shares_class(dependent, class, member) {
@@ -115,7 +117,8 @@ fn note_class(
     member: Option<&Member>,
     whats: &mut Items<What>,
 ) -> Result<(), OutOfMemory>
-    ensures { OnOk result (whats.new ≡ whats.old ++ violations.class_with class.now (option_copied member.entry)) }
+    ensures { OnOk result (whats.new
+        ≡ whats.old ++ violations.class_with class.now (option_copied member.entry)) }
 {
     match member {
         None => Ok(()),
@@ -139,7 +142,8 @@ fn note_classes(
     classes: &[Text],
     whats: &mut Items<What>,
 ) -> Result<(), OutOfMemory>
-    ensures { OnOk result (whats.new ≡ whats.old ++ violations.shared_behind members.now dependent.now [] classes.now) }
+    ensures { OnOk result (whats.new
+        ≡ whats.old ++ violations.shared_behind members.now dependent.now [] classes.now) }
 {
     let mut told = BTreeSet::new(alloc);
     for class in classes {
@@ -204,19 +208,43 @@ fn tell_all(
     Ok(())
 }
 
-/// What is told already, and then all that stands against members none of whose texts came from the repository.
-pub(crate) fn tell_installed(
+fn has_name(names: &[Name], name: &Name) -> bool
+    requires { NeverFallsBy (λ text. text) names.now }
+    ensures { result ≡ list_any (has_key (λ text. text) name.now) names.now }
+{
+    has_bytes(names, name.as_str().as_bytes())
+}
+
+fn is_fresh(fresh: &[Name], member: &Member) -> bool
+    requires { NeverFallsBy (λ name. name) fresh.now }
+    ensures { result ≡ violations.is_from_repository fresh.now member.now }
+{
+    has_name(fresh, &member.package.pkg.name)
+}
+
+/// What is told already, and then all that stands against members, of which those with fresh names have texts that came from
+/// the repository.
+pub(crate) fn tell_members(
     alloc: Global,
     members: &[Member],
     set: &[Pkg],
+    fresh: &[Name],
     told: &mut Items<Violation>,
 ) -> Result<(), OutOfMemory>
     requires set { set.now ≡ pkgs_of members.now }
     requires rises { Rises set.now }
-    ensures { OnOk result (told.new ≡ told.old ++ violations.violations_among members.now []) }
+    requires fresh { NeverFallsBy (λ name. name) fresh.now }
+    ensures { OnOk result (told.new
+        ≡ told.old ++ violations.violations_among members.now fresh.now) }
 {
     for member in members {
-        let whats = whats_of(alloc, members, set, false, &member.package)?;
+        let whats = whats_of(
+            alloc,
+            members,
+            set,
+            is_fresh(fresh, member),
+            &member.package,
+        )?;
         tell_all(alloc, &member.package.pkg, whats, told)?;
     }
     Ok(())

@@ -1,5 +1,6 @@
 use Rattle.lock_check.specs.LockItems.{part_faults, passes}
-use Rattle.lock_check.proofs.Bound.{mapped_on, next_sound, rest_sound}
+use Rattle.lock_check.proofs.Bound.{next_sound, rest_sound}
+use Rattle.lock_check.proofs.Ordered.{mapped_on}
 use Rattle.lock_check.proofs.lock_items.passed.Goals as goal
 
 pub passes-requires : goal.passes-requires

@@ -9,8 +9,8 @@ pub absents-requires : goal.absents-requires
 absents-requires c =
     pkgs_never_fall c.in_ok-members.members c.as_slice-2.result.now c.in_ok-members.ensures.rises (c.as_slice-2.ensures ∙ c.in_ok-set.ensures ∙ ap pkgs_of c.as_slice.ensures)
 
-pub tell_installed-requires-clause-rises : goal.tell_installed-requires-clause-rises
-tell_installed-requires-clause-rises c =
+pub tell_members-requires-clause-rises : goal.tell_members-requires-clause-rises
+tell_members-requires-clause-rises c =
     pkgs_rise c.in_ok-members.members c.as_slice-4.result.now c.in_ok-members.ensures.rises (c.as_slice-4.ensures ∙ c.in_ok-set.ensures ∙ ap pkgs_of c.as_slice.ensures)
 
 pub names_in-requires : goal.names_in-requires
@@ -35,6 +35,6 @@ pub returns-clause-violations : goal.returns-clause-violations
 returns-clause-violations c =
     let set_is = c.in_ok-set.ensures ∙ ap pkgs_of c.as_slice.ensures in
     c.in_ok-sort_by_bytes.ensures.ok
-    ∙ ap (in_order_by violation_name) (c.in_ok-tell_installed.ensures
+    ∙ ap (in_order_by violation_name) (c.in_ok-tell_members.ensures
     ∙ ap (λ told. told ++ violations_among c.as_slice-3.result.now []) (c.in_ok-told.ensures ∙ absents_told c.args.installed.now c.in_ok-members.members c.as_slice-2.result.now c.args.names.now c.in_ok-members.ensures.sorted (c.as_slice-2.ensures ∙ set_is))
     ∙ ap (λ members. told_absents c.args.installed.now c.args.names.now ++ violations_among members []) (c.as_slice-3.ensures ∙ c.in_ok-members.ensures.sorted))

@@ -9,8 +9,8 @@ use Rattle.lock_check.proofs.targets.remove_target.Goals as goal
 pub largest_met-requires : goal.largest_met-requires
 largest_met-requires c = others_differ c.args.installed.now c.args.names.now c.as_slice.result.now (c.as_slice.ensures ∙ c.in_ok-others.ensures) c.requires
 
-pub tell_installed-requires-clause-rises : goal.tell_installed-requires-clause-rises
-tell_installed-requires-clause-rises c =
+pub tell_members-requires-clause-rises : goal.tell_members-requires-clause-rises
+tell_members-requires-clause-rises c =
     pkgs_rise c.in_ok-members.members c.as_slice-4.result.now c.in_ok-members.ensures.rises (c.as_slice-4.ensures ∙ c.in_ok-set.ensures ∙ ap pkgs_of c.as_slice-2.ensures)
 
 pub names_in-requires : goal.names_in-requires
@@ -28,6 +28,6 @@ returns-clause-target c = record {
 pub returns-clause-violations : goal.returns-clause-violations
 returns-clause-violations c =
     c.in_ok-sort_by_bytes.ensures.ok
-    ∙ ap (in_order_by violation_name) (c.in_ok-tell_installed.ensures
+    ∙ ap (in_order_by violation_name) (c.in_ok-tell_members.ensures
     ∙ ap (λ told. told ++ violations_among c.as_slice-3.result.now []) c.in_ok-told.ensures
     ∙ ap (λ members. told_absents c.args.installed.now c.args.names.now ++ violations_among members []) c.as_slice-3.ensures)

@@ -1,13 +1,10 @@
-use Rattle.lock_check.proofs.Ordered.{copies_rise, copies_sorted, ok_on}
+use Rattle.std.proofs.Common.{ap, ◌∙◌}
+use Rattle.lock_check.specs.Targets.{by_name}
+use Rattle.lock_check.proofs.Ordered.{copies_differ, ok_on}
 use Rattle.lock_check.proofs.targets.sort_members.Goals as goal
 
-pub returns-clause-sorted : goal.returns-clause-sorted
-returns-clause-sorted c =
-    ok_on c.members_of.result (λ sorted is. copies_sorted c.args.members.now sorted c.in_ok-copies.copies c.sort_by_bytes.new.self c.in_ok-copies.ensures c.in_ok-sort_by_bytes.ensures.ok is)
-    c.members_of.ensures
+pub sort_named-requires : goal.sort_named-requires
+sort_named-requires c = copies_differ c.args.members.now c.in_ok-copies.copies c.in_ok-copies.ensures c.requires
 
-pub returns-clause-rises : goal.returns-clause-rises
-returns-clause-rises c =
-    ok_on c.members_of.result (λ sorted is.
-    copies_rise c.order_is_stable.ensures.rising c.args.members.now sorted c.in_ok-copies.copies c.sort_by_bytes.new.self c.in_ok-copies.ensures c.in_ok-sort_by_bytes.ensures.ok is c.requires)
-    c.members_of.ensures
+pub returns-clause-sorted : goal.returns-clause-sorted
+returns-clause-sorted c = ok_on c.sort_named.result (λ sorted is. is ∙ ap by_name c.in_ok-copies.ensures) c.sort_named.ensures.sorted
