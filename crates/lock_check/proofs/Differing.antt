@@ -1,11 +1,11 @@
 -- Names are looked at one after another, and the first that stood there before is found.
-use Rattle.std.proofs.Common.{◌≡◌, ℕ, zero, suc, ◌+◌, ◌<◌, ◌≤◌, List, [], ◌∷◌, ◌++◌, length, get_or, take, map, Bool, true, false, not, ◌||◌, ⊎_elim, refl, sym, ◌∙◌, ap, subst, arith}
-use Rattle.std.specs.Prelude.{Contains, bytes_eq}
+use Rattle.std.proofs.Common.{◌≡◌, ℕ, zero, suc, ◌+◌, ◌<◌, List, [], ◌∷◌, ◌++◌, length, get_or, take, map, Bool, true, false, not, ◌||◌, refl, sym, ◌∙◌, ap, subst, arith}
+use Rattle.std.specs.Prelude.{bytes_eq}
 use Rattle.std.specs.List.{AllByRecursion, IsDistinct}
 use Rattle.std.proofs.lemmas.List.{take_more}
 use Rattle.opam_filter.specs.NameSets.{with_name}
 use Rattle.lock_check.specs.Chased.{is_among}
-use Rattle.lock_check.proofs.Among.{among_joined, among_one, either, in_among, is_same, or_left, same_name, turned}
+use Rattle.lock_check.proofs.Among.{among_joined, among_one, in_among, is_same, turned}
 use Rattle.lock_check.proofs.Members.{in_map}
 use Rattle.lock_check.proofs.Names.{put_those}
 use Rattle.lock_check.proofs.Standing.{differ_pushed}

@@ -1,12 +1,11 @@
 -- Needed names grow by those to which they lead.
-use Rattle.std.proofs.Common.{◌≡◌, ℕ, zero, suc, ◌+◌, ◌-◌, ◌<◌, ◌≤◌, List, [], ◌∷◌, ◌++◌, length, get_or, drop, map, filter, fold, Bool, true, false, not, ◌||◌, ◌&&◌, cond, ◌⊎◌, inl, inr, ⊎_elim, refl, sym, ◌∙◌, ap, subst, arith}
+use Rattle.std.proofs.Common.{◌≡◌, ℕ, zero, suc, ◌+◌, ◌-◌, ◌<◌, ◌≤◌, List, [], ◌∷◌, ◌++◌, length, get_or, drop, map, fold, Bool, true, false, ◌||◌, ◌⊎◌, inl, inr, ⊎_elim, refl, sym, ◌∙◌, ap, subst, arith}
 use Rattle.std.specs.Prelude.{Contains, bytes_eq}
 use Rattle.std.proofs.lemmas.List.{drop_more, length-append}
-use Rattle.opam_names.specs.ByteOrders.{has_key}
 use Rattle.opam_names.specs.declared.packages.Pkg.{Pkg}
 use Rattle.opam_filter.specs.NameSets.{with_name}
 use Rattle.lock_check.specs.Chased.{bound_among, has_pkg, is_among, pkg_name}
-use Rattle.lock_check.specs.Growth.{AddsAll, AreNew, Begins, Grows, IsSpreading, Reaches, Spread, Spreads, count_missing}
+use Rattle.lock_check.specs.Growth.{AddsAll, AreNew, IsSpreading, Reaches, Spread, Spreads, count_missing}
 use Rattle.lock_check.specs.Needed.{IsClosed}
 use Rattle.lock_check.proofs.Among.{all_less, among_in, among_joined, either, grown_among, grows_none, grows_on, in_among, is_same, or_left, or_right, same_name, still_among, turned}
 use Rattle.lock_check.proofs.Members.{of_filter}

@@ -1,22 +1,20 @@
 -- Elements that are found by their keys where keys rise.
-use Rattle.std.proofs.Common.{◌≡◌, ℕ, suc, ◌+◌, List, [], ◌∷◌, ◌++◌, length, map, filter, fold, Bool, true, false, not, ◌||◌, cond, ◌⊎◌, inl, inr, ⊎_elim, refl, sym, ◌∙◌, ap, subst, arith}
+use Rattle.std.proofs.Common.{◌≡◌, ℕ, suc, ◌+◌, List, [], ◌∷◌, ◌++◌, length, map, filter, fold, Bool, true, false, not, ◌||◌, cond, ⊎_elim, refl, sym, ◌∙◌, ap, subst, arith}
 use Rattle.std.specs.Prelude.{Contains, bytes_eq, find}
-use Rattle.std.specs.List.{AllByRecursion, IsDistinct, list_any}
+use Rattle.std.specs.List.{AllByRecursion, list_any}
 use Rattle.std.specs.List.Sorted.{IsStrictlySortedBy}
 use Rattle.std.specs.Ordering.{is_eq, is_gt, match_ordering, ordering_reverse}
 use Rattle.std.specs.declared.cmp.Ordering.{Ordering}
 use Rattle.std.specs.declared.cmp.Ordering.TheVariants.{Less, Equal, Greater}
-use Rattle.std.specs.declared.option.Option.{Option}
 use Rattle.std.specs.declared.option.Option.TheVariants.{None, Some}
 use Rattle.std.proofs.lemmas.Cmp.{nat_list_cmp_total}
 use Rattle.std.proofs.lemmas.Map.Text.{is_eq-slice_cmp}
-use Rattle.std.proofs.lemmas.Slice.Eq.{bytes_eq-Decides}
 use Rattle.opam_names.specs.ByteOrderLaws.{TextsRise}
 use Rattle.opam_names.specs.ByteOrders.{RisesBy, byte_order, each_once, has_key}
 use Rattle.opam_filter.specs.NameSets.{with_name}
 use Rattle.lock_check.specs.Chased.{is_among}
 use Rattle.lock_check.specs.Growth.{AreNew}
-use Rattle.lock_check.proofs.Among.{among_all, among_in, among_joined, among_one, either, fold_joined, in_among, is_same, none_of_new, or_groups, or_left, or_right, same_name, turned}
+use Rattle.lock_check.proofs.Among.{among_all, among_in, among_joined, among_one, fold_joined, in_among, is_same, none_of_new, or_groups, or_left, or_right, same_name}
 use Rattle.lock_check.proofs.Members.{first_in, in_cases, later_in, none_in}
 
 abbrev pub Members : Type 0

@@ -6,7 +6,6 @@ use Rattle.std.specs.List.Sorted.{IsStrictlySortedBy}
 use Rattle.std.specs.declared.option.Option.{Option}
 use Rattle.std.specs.declared.option.Option.TheVariants.{None, Some}
 use Rattle.std.proofs.lemmas.List.Elements.{Contains-push_cases}
-use Rattle.std.proofs.lemmas.Slice.Eq.{bytes_eq-Decides}
 use Rattle.opam_names.specs.ByteOrderLaws.{NeverFallsBy-from_rises, TextsRise}
 use Rattle.std.specs.Ordering.{is_gt}
 use Rattle.opam_names.specs.ByteOrders.{NeverFallsBy, RisesBy, byte_order, each_once, has_key, in_order_by}
@@ -22,11 +21,11 @@ use Rattle.lock_check.specs.Needed.{IsClosed, IsLeast, full_names}
 use Rattle.lock_check.specs.Targets.{has_member, member_name}
 use Rattle.lock_check.specs.declared.answer.Answer.TheVariants.{Known, Unknown}
 use Rattle.lock_check.specs.declared.held.Held.{Held}
-use Rattle.lock_check.proofs.Among.{among_all, among_in, among_joined, in_among, is_same, none_of_new, or_left, or_right, same_name, turned}
+use Rattle.lock_check.proofs.Among.{among_all, among_in, among_joined, is_same, none_of_new, or_left, same_name, turned}
 use Rattle.lock_check.proofs.Distinct.{differ_chosen}
-use Rattle.lock_check.proofs.Members.{first_in, in_cases, in_map, in_order, later_in, none_in, of_filter}
+use Rattle.lock_check.proofs.Members.{first_in, in_map, in_order, later_in, none_in, of_filter}
 use Rattle.lock_check.proofs.Ordered.{held_rise}
-use Rattle.lock_check.proofs.Rising.{Members, any_joined, any_none, any_of, find_last, find_missing, find_pushed, found_in, least_found, none_any, once_longer, once_rising, once_same, rises_found, rising_more}
+use Rattle.lock_check.proofs.Rising.{Members, any_joined, any_none, find_last, find_missing, find_pushed, found_in, least_found, none_any, once_longer, once_rising, once_same, rises_found, rising_more}
 
 -- ---- lists
 

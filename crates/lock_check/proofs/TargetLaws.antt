@@ -1,7 +1,7 @@
 -- Laws of targets.
-use Rattle.std.proofs.Common.{◌≡◌, ℕ, zero, suc, ◌+◌, ◌<◌, ◌≤◌, List, [], ◌∷◌, ◌++◌, length, map, filter, fold, Bool, true, false, not, ◌||◌, ◌&&◌, cond, IsTrue, ⊎_elim, refl, sym, ◌∙◌, ap, subst, arith}
+use Rattle.std.proofs.Common.{◌≡◌, ℕ, zero, suc, ◌+◌, ◌<◌, ◌≤◌, List, [], ◌∷◌, ◌++◌, map, filter, Bool, true, false, not, ◌&&◌, cond, IsTrue, ⊎_elim, refl, sym, ◌∙◌, ap, subst, arith}
 use Rattle.std.specs.Prelude.{Contains, bytes_eq, find, is_none}
-use Rattle.std.specs.List.{IsDistinct, flat_map, list_all, list_any}
+use Rattle.std.specs.List.{IsDistinct, list_all}
 use Rattle.std.specs.declared.option.Option.{Option}
 use Rattle.std.specs.declared.option.Option.TheVariants.{None, Some}
 use Rattle.std.proofs.lemmas.List.Elements.{Contains-append_cases, Contains-append_left, Contains-append_right, Contains-push_cases}
@@ -10,19 +10,16 @@ use Rattle.opam_names.specs.ByteOrders.{RisesBy, each_once, has_key, in_order_by
 use Rattle.opam_names.specs.declared.packages.Pkg.{Pkg}
 use Rattle.opam_filter.specs.Laws.{HoldingIsMonotone}
 use Rattle.opam_filter.specs.NameSets.{with_name}
-use Rattle.opam_filter.specs.Sets.{Rises}
 use Rattle.opam_package.specs.declared.package.Member.{Member}
 use Rattle.opam_package.specs.declared.package.Need.{Need}
 use Rattle.opam_package.specs.declared.package.Package.{Package}
 use Rattle.lock_check.specs.Chased.{Chased, bound_to, has_pkg, held_by_name, held_name, held_of, install_members, is_among, is_awaited, is_other_version, is_replaced, next_of, pkg_name, stay, stored_in, stored_of}
 use Rattle.lock_check.specs.Growth.{count_missing}
 use Rattle.lock_check.specs.Needed.{IsClosed, IsLeast}
-use Rattle.lock_check.specs.Removals.{AreAmong, AreMet, IsLargestMet}
-use Rattle.lock_check.specs.TargetLaws.{InstalledStays, LeastIsOne, LeastIsThere, NoneIsLeftOut, NothingAgainstIsMet, UnionIsMet}
+use Rattle.lock_check.specs.TargetLaws.{LeastIsOne, NoneIsLeftOut, NothingAgainstIsMet, UnionIsMet}
 use Rattle.lock_check.specs.Targets.{by_name, has_member, member_name}
-use Rattle.lock_check.specs.Violations.{all_violations, conflicts_among, is_need_met, is_met_among, next_item, pkgs_of, refused_in, shared_behind, told_of, unavailable, unmet_from, violation_name, violations_among, violations_of_some, is_from_repository, whats_of}
+use Rattle.lock_check.specs.Violations.{conflicts_among, is_need_met, is_met_among, next_item, pkgs_of, refused_in, shared_behind, told_of, unavailable, unmet_from, violation_name, violations_among, violations_of_some, is_from_repository, whats_of}
 use Rattle.lock_check.specs.declared.held.Held.{Held}
-use Rattle.lock_check.specs.declared.violation.Violation.{Violation}
 use Rattle.lock_check.specs.declared.violation.What.{What}
 use Rattle.lock_check.specs.declared.violation.What.TheVariants.{Unmet}
 use Rattle.lock_check.proofs.Among.{among_all, among_in, either, in_among, is_same, less, or_left, turned}

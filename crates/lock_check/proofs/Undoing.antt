@@ -1,5 +1,5 @@
 -- Names that came are taken back, the last one first; and names that are awaited.
-use Rattle.std.proofs.Common.{◌≡◌, ℕ, zero, suc, ◌+◌, ◌<◌, List, [], ◌∷◌, ◌++◌, length, get_or, take, fold, Bool, true, false, not, ◌||◌, ◌&&◌, cond, ⊎_elim, refl, sym, ◌∙◌, ap, subst, arith}
+use Rattle.std.proofs.Common.{◌≡◌, ℕ, zero, suc, ◌+◌, ◌<◌, List, [], ◌∷◌, ◌++◌, length, get_or, take, fold, Bool, true, false, not, ◌||◌, ◌&&◌, cond, ⊎_elim, refl, sym, ◌∙◌, ap, subst}
 use Rattle.std.specs.Prelude.{bytes_eq}
 use Rattle.std.proofs.lemmas.List.{append_assoc, take_more}
 use Rattle.opam_filter.specs.NameSets.{with_name}

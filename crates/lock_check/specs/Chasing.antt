@@ -1,5 +1,5 @@
 -- Words of private clauses: what is always true of a chase.
-use Rattle.std.specs.Prelude.{◌≡◌, ℕ, List, [], ◌∷◌, ◌++◌, map, Bool, true, false, bytes_eq, Contains}
+use Rattle.std.specs.Prelude.{◌≡◌, ℕ, List, [], map, Bool, true, false, bytes_eq, Contains}
 use Rattle.std.specs.List.{IsDistinct}
 use Rattle.std.specs.declared.option.Option.{Option}
 use Rattle.std.specs.declared.option.Option.TheVariants.{None, Some}
@@ -7,7 +7,7 @@ use Rattle.opam_names.specs.ByteOrders.{RisesBy}
 use Rattle.opam_names.specs.declared.packages.Pkg.{Pkg}
 use Rattle.opam_filter.specs.Sets.{Rises}
 use Rattle.opam_package.specs.declared.package.Member.{Member}
-use Rattle.lock_check.specs.Chased.{Chased, IsNeeded, bound_to, count_of, held_name, is_among, is_awaited, next_of, stored_in}
+use Rattle.lock_check.specs.Chased.{Chased, IsNeeded, bound_to, count_of, held_name, is_among, is_awaited, stored_in}
 use Rattle.lock_check.specs.Targets.{member_name}
 use Rattle.lock_check.specs.declared.held.Held.{Held}
 

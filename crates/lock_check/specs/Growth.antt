@@ -1,5 +1,5 @@
 -- Words of private clauses: needed names while they grow.
-use Rattle.std.specs.Prelude.{◌≡◌, ℕ, ◌+◌, ◌≤◌, ◌⊎◌, List, [], ◌∷◌, ◌++◌, drop, filter, fold, length, Bool, true, false, not, ◌&&◌, ◌||◌, cond, Contains, IsTrue, is_none}
+use Rattle.std.specs.Prelude.{◌≡◌, ℕ, ◌≤◌, ◌⊎◌, List, [], ◌∷◌, ◌++◌, drop, filter, fold, length, Bool, true, false, not, ◌&&◌, ◌||◌, cond, Contains, is_none}
 use Rattle.std.specs.declared.option.Option.{Option}
 use Rattle.std.specs.declared.option.Option.TheVariants.{None, Some}
 use Rattle.std.specs.List.{list_any}

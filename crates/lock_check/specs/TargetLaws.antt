@@ -1,13 +1,11 @@
 -- Laws of targets. What each says is this project's own.
-use Rattle.std.specs.Prelude.{◌≡◌, ℕ, List, [], ◌∷◌, ◌++◌, map, false, bytes_eq, Contains, IsTrue}
-use Rattle.std.specs.List.{IsDistinct, list_any}
+use Rattle.std.specs.Prelude.{◌≡◌, ℕ, List, [], ◌∷◌, ◌++◌, map, bytes_eq, Contains, IsTrue}
+use Rattle.std.specs.List.{IsDistinct}
 use Rattle.std.specs.declared.option.Option.TheVariants.{None}
-use Rattle.opam_names.specs.declared.packages.Pkg.{Pkg}
 use Rattle.opam_filter.specs.Sets.{Rises}
-use Rattle.opam_package.specs.Dependencies.{is_forbidden}
 use Rattle.opam_package.specs.declared.package.Member.{Member}
 use Rattle.lock_check.specs.Chased.{Chased, held_by_name, install_members, next_of}
-use Rattle.lock_check.specs.Needed.{IsClosed, IsLeast}
+use Rattle.lock_check.specs.Needed.{IsLeast}
 use Rattle.lock_check.specs.Removals.{AreAmong, AreMet, IsLargestMet}
 use Rattle.lock_check.specs.Targets.{by_name, member_name}
 use Rattle.lock_check.specs.Violations.{all_violations, is_met_among, pkgs_of}

@@ -1,4 +1,4 @@
-use Rattle.std.proofs.Common.{◌≡◌, ◌<◌, ℕ, List, true, length, get_or, map, sym, ap, ◌∙◌, arith}
+use Rattle.std.proofs.Common.{◌≡◌, ◌<◌, ℕ, List, length, get_or, map, sym, ap, ◌∙◌, arith}
 use Rattle.lock_check.specs.Chased.{bound_to, is_among, pkg_name}
 use Rattle.lock_check.specs.Growth.{held_names, led_to}
 use Rattle.lock_check.proofs.Among.{grows_on}

@@ -1,4 +1,3 @@
-use Rattle.std.proofs.Common.{sym}
 use Rattle.lock_check.proofs.Ordered.{held_rise}
 use Rattle.lock_check.proofs.held.hold_all.Goals as goal
 

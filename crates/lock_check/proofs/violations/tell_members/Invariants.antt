@@ -1,4 +1,4 @@
-use Rattle.std.proofs.Common.{◌≡◌, [], ◌++◌, drop}
+use Rattle.std.proofs.Common.{◌≡◌, ◌++◌, drop}
 use Rattle.lock_check.specs.Violations.{violations_of_some}
 use Rattle.lock_check.proofs.violations.tell_members.Given as goal
 

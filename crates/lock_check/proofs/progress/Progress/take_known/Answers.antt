@@ -1,4 +1,4 @@
-use Rattle.std.proofs.Common.{[], ◌∷◌, ◌++◌, List, refl, sym, ap, ◌∙◌}
+use Rattle.std.proofs.Common.{[], ◌∷◌, ◌++◌, List, ap, ◌∙◌}
 use Rattle.opam_package.specs.declared.package.Member.{Member}
 use Rattle.lock_check.specs.Chased.{bound_among, held_name, pkg_name}
 use Rattle.lock_check.specs.Needed.{full_names}

@@ -1,4 +1,3 @@
-use Rattle.std.proofs.Common.{sym, ap, ◌∙◌}
 use Rattle.lock_check.specs.Progressing.{chased_with}
 use Rattle.lock_check.proofs.Standing.{given_unknown, stands_unknown, taken_so}
 use Rattle.lock_check.proofs.progress.Progress.take_unknown.Goals as goal
