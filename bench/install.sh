@@ -6,9 +6,9 @@
 # The program is proved and built in a copy, which takes minutes.
 #
 # Aims: 50 ms for the text, 5 ms for each of the jobs. Measured on 4 processors of 2.5 GHz beside a dozen provers, which blurs it:
-# of 42 runs the best had 26 ms for the text (16,384 items: 8.6), 3.9 for the exports and 2.5 for the updates of its own; the
-# worst had double of each. By the clock the best turns of the jobs had 3.5 and 2.0 ms; the text had 56 there, since it is taken
-# off the processor meanwhile. So all aims are met, that for the exports with little to spare.
+# of 42 runs the best had 26 ms for the text (16,384 items: 8.6), 3.9 for the exports and 2.5 for the updates of its own; of twelve
+# that were looked at one by one the worst had about double. By the clock the best turns of the jobs had 3.5 and 2.0 ms, and the
+# text 56, since it is taken off the processor meanwhile. So all aims are met, that for the exports with little to spare.
 # Where the time goes (callgrind): a third and more is `malloc` and `free`, of nodes and paths, or of variables. Each package that
 # exports has a map of variables of its own, which is why the exports take longer.
 # Usage: bench/install.sh [COUNT]
