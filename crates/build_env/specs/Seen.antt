@@ -20,13 +20,16 @@ use Rattle.build_env.specs.declared.export.Export.{Export}
 abbrev pub Named : Type 0
 Named = List (List ℕ × Pkg)
 
+-- the index with one package more
 abbrev pub with_member : Named → Pkg → Named
 with_member named pkg = insert_entry byte_order named pkg.name pkg
 
+-- the index with these packages, one after another
 abbrev pub with_members : Named → List Pkg → Named
 with_members named [] = named
 with_members named (pkg ∷ pkgs) = with_members (with_member named pkg) pkgs
 
+-- packages by their names
 abbrev pub by_name : List Pkg → Named
 by_name members = with_members [] members
 
@@ -34,9 +37,11 @@ by_name members = with_members [] members
 abbrev pub AreNamed : List Pkg → Type 0
 AreNamed members = All (λ pkg. IsName pkg.name) members
 
+-- the package of this name
 abbrev pub member_at : Named → List ℕ → Option Pkg
 member_at named name = lookup (is_at (byte_order name)) named
 
+-- the packages of these names, those that there are
 abbrev pub members_at : Named → List (List ℕ) → List Pkg
 members_at named names = flat_map (λ name. option_to_list (member_at named name)) names
 
@@ -44,6 +49,7 @@ members_at named names = flat_map (λ name. option_to_list (member_at named name
 abbrev pub view_seen : Named → Pkg → List (List ℕ) → View
 view_seen named pkg asked = record { members = members_at named (pkg.name ∷ asked) }
 
+-- the variables of a package under what is seen of its view by name
 abbrev pub values_seen : Facts → Named → Pkg → List (List ℕ) → Values
 values_seen facts named pkg asked = variables_for facts (view_seen named pkg asked) asked pkg
 
@@ -56,6 +62,7 @@ abbrev pub with_export_seen : Facts → Named → Environment → Export → Env
 with_export_seen facts named env export =
     with_updates (values_seen facts named export.pkg (asked_by_export export)) env export.updates
 
+-- the environment with these exports, each under the variables of its own package
 abbrev pub with_exports_seen : Facts → Named → Environment → List Export → Environment
 with_exports_seen facts named env [] = env
 with_exports_seen facts named env (export ∷ exports) = with_exports_seen facts named (with_export_seen facts named env export) exports

@@ -30,10 +30,12 @@ misc_verdicts value place = Fails (Misc place) ∷ []
 abbrev pub item_verdicts : Section → List ℕ → List Node → List Verdict
 item_verdicts section name nodes = map (verdict section name) nodes
 
+-- what the value of a field gives: for each of its items a verdict, or one fault where the field is no section
 abbrev pub section_verdicts : List ℕ → Option Section → Node → Span → List Verdict
 section_verdicts name None value place = Fails (UnknownSection place) ∷ []
 section_verdicts name (Some section) value place = item_verdicts section name (values_of value)
 
+-- the same of a field by its name; `misc` takes an empty list alone
 abbrev pub field_verdicts : List ℕ → List ℕ → Node → Span → List Verdict
 field_verdicts name field value place =
     if bytes_eq field (codes "misc") then misc_verdicts (list_in value) place else section_verdicts name (section_of field) value place
@@ -54,6 +56,7 @@ all_verdicts name [] places = []
 all_verdicts name (item ∷ items) places =
     entry_verdicts name item.0.name item.1 (first_place places) ++ all_verdicts name items (drop 1 places)
 
+-- what a whole file gives, in its order
 abbrev pub file_verdicts : List ℕ → File → List Verdict
 file_verdicts name file = all_verdicts name (items_of file) file.places
 
@@ -62,6 +65,7 @@ abbrev pub field_items : Option Section → Node → List Node
 field_items None value = []
 field_items (Some section) value = values_of value
 
+-- the items of an entry
 abbrev pub entry_items : List ℕ → Contents → List Node
 entry_items field (FieldContents value) = field_items (section_of field) value
 entry_items field (SectionContents fields) = []

@@ -13,6 +13,7 @@ use Rattle.install_sections.specs.Sections.{folder_text, laid}
 abbrev pub uncompressed : List ℕ → List ℕ
 uncompressed file = if ends_with ◌==◌ file (codes ".gz") then take (length file - 3) file else file
 
+-- a full stop
 abbrev pub is_dot : ℕ → Bool
 is_dot b = b == 46
 

@@ -21,6 +21,7 @@ use Rattle.install_sections.specs.WrittenPaths.{last_part, path_in, safe_path}
 abbrev pub is_optional : List ℕ → Bool
 is_optional text = begins_with (codes "?") text
 
+-- the text without the mark that says that its file may be missing
 abbrev pub unmarked : List ℕ → List ℕ
 unmarked text = if is_optional text then drop 1 text else text
 

@@ -12,6 +12,7 @@ use Rattle.opam_syntax.specs.declared.tree.Value.TheViews.{out-Value}
 abbrev pub Outside : Type 0
 Outside = Value-F Value Node
 
+-- the node as it is seen from outside
 abbrev pub outside : Node → Outside
 outside node = out-Value node.value
 
@@ -20,6 +21,7 @@ abbrev pub text_at : Outside → Option (List ℕ)
 text_at (Value-F.Text bytes) = Some bytes
 text_at value = None
 
+-- the text that the node is, if it is one
 abbrev pub text_in : Node → Option (List ℕ)
 text_in node = text_at (outside node)
 
@@ -28,6 +30,7 @@ abbrev pub list_at : Outside → Option (List Node)
 list_at (Value-F.List nodes) = Some nodes
 list_at value = None
 
+-- the items of the list that the node is, if it is one
 abbrev pub list_in : Node → Option (List Node)
 list_in node = list_at (outside node)
 

@@ -163,6 +163,7 @@ layer_whole (Reduced-F.And parts) = list_all (λ part. part) parts
 layer_whole (Reduced-F.Or parts) = list_all (λ part. part) parts
 layer_whole (Reduced-F.Atom name test) = true
 
+-- nothing inside is dropped
 abbrev pub is_whole : Reduced → Bool
 is_whole = fold-Reduced Bool layer_whole
 

@@ -1,9 +1,9 @@
 // The names of packages with which the variables of a filter or of a text are looked up.
-ghost use Rattle.std.specs.Prelude.{◌≡◌, [], ◌∷◌, filter, fold, IfOk, map, OnOk};
+ghost use Rattle.std.specs.Prelude.{◌≡◌, [], ◌∷◌, filter, IfOk, map, OnOk};
 ghost use Rattle.std.specs.List.{flat_map};
 ghost use Rattle.opam_names.specs.Names.{is_name};
 ghost use Rattle.opam_filter.specs.Asked.{asked, asked_in, names_in, names_in_text, names_of_scope, scope_names};
-ghost use Rattle.opam_filter.specs.NameSets.{with_name};
+ghost use Rattle.opam_filter.specs.NameSets.{with_names};
 
 use crate::Filter;
 use crate::parts::{are_joined, scope_parts};
@@ -34,7 +34,7 @@ pub fn asked_in(alloc: Global, text: &str) -> Result<Items<Name>, OutOfMemory>
 // Adds the names of a filter.
 #[cycle(walk)]
 fn ask(alloc: Global, filter: &Filter, names: &mut BTreeSet<Name>) -> Result<(), OutOfMemory>
-    ensures { OnOk result (names.new.keys ≡ fold with_name names.old.keys (names_in filter.now)) }
+    ensures { OnOk result (names.new.keys ≡ with_names names.old.keys (names_in filter.now)) }
 {
     match filter {
         Filter::Flag(_) => Ok(()),
@@ -51,7 +51,8 @@ fn ask(alloc: Global, filter: &Filter, names: &mut BTreeSet<Name>) -> Result<(),
 
 #[cycle(walk)]
 fn ask_all(alloc: Global, parts: &[Filter], names: &mut BTreeSet<Name>) -> Result<(), OutOfMemory>
-    ensures { OnOk result (names.new.keys ≡ fold with_name names.old.keys (flat_map (λ found. found) (map names_in parts.now))) }
+    ensures { OnOk result (names.new.keys ≡ with_names names.old.keys
+        (flat_map (λ found. found) (map names_in parts.now))) }
 {
     for part in parts {
         ask(alloc, part, names)?;
@@ -60,7 +61,7 @@ fn ask_all(alloc: Global, parts: &[Filter], names: &mut BTreeSet<Name>) -> Resul
 }
 
 fn ask_in_text(alloc: Global, text: &str, names: &mut BTreeSet<Name>) -> Result<(), OutOfMemory>
-    ensures { OnOk result (names.new.keys ≡ fold with_name names.old.keys (names_in_text text.now)) }
+    ensures { OnOk result (names.new.keys ≡ with_names names.old.keys (names_in_text text.now)) }
 {
     let mut rest = text;
     while let Some(hole) = first_hole(rest) {
@@ -75,7 +76,8 @@ fn ask_variable(
     variable: &Var,
     names: &mut BTreeSet<Name>,
 ) -> Result<(), OutOfMemory>
-    ensures { OnOk result (names.new.keys ≡ fold with_name names.old.keys (names_of_scope variable.now.scope)) }
+    ensures { OnOk result (names.new.keys ≡ with_names names.old.keys
+        (names_of_scope variable.now.scope)) }
 {
     match &variable.scope {
         None => Ok(()),
@@ -85,7 +87,7 @@ fn ask_variable(
 
 // Of several parts each is looked up alone, any other scope as it stands.
 fn ask_scope(alloc: Global, scope: &str, names: &mut BTreeSet<Name>) -> Result<(), OutOfMemory>
-    ensures { OnOk result (names.new.keys ≡ fold with_name names.old.keys (scope_names scope.now)) }
+    ensures { OnOk result (names.new.keys ≡ with_names names.old.keys (scope_names scope.now)) }
 {
     let parts = scope_parts(alloc, scope)?;
     if are_joined(parts.as_slice()) {
@@ -96,7 +98,8 @@ fn ask_scope(alloc: Global, scope: &str, names: &mut BTreeSet<Name>) -> Result<(
 }
 
 fn add_names(alloc: Global, parts: &[&str], names: &mut BTreeSet<Name>) -> Result<(), OutOfMemory>
-    ensures { OnOk result (names.new.keys ≡ fold with_name names.old.keys (filter is_name (map (λ part. part.now) parts.now))) }
+    ensures { OnOk result (names.new.keys ≡ with_names names.old.keys
+        (filter is_name (map (λ part. part.now) parts.now))) }
 {
     for part in parts {
         add_name(alloc, part, names)?;
@@ -106,7 +109,8 @@ fn add_names(alloc: Global, parts: &[&str], names: &mut BTreeSet<Name>) -> Resul
 
 // Adds the text where it is a name.
 fn add_name(alloc: Global, text: &str, names: &mut BTreeSet<Name>) -> Result<(), OutOfMemory>
-    ensures { OnOk result (names.new.keys ≡ fold with_name names.old.keys (filter is_name (text.now ∷ []))) }
+    ensures { OnOk result (names.new.keys ≡ with_names names.old.keys
+        (filter is_name (text.now ∷ []))) }
 {
     if text.len() > NAME_LIMIT {
         return Ok(());

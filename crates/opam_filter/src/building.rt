@@ -68,7 +68,8 @@ fn build_boxed(alloc: Global, node: &Node) -> Result<Boxed<Filter>, OutOfMemory>
 #[cycle(build_filter)]
 fn build_filters(alloc: Global, nodes: &[Node]) -> Result<Items<Filter>, OutOfMemory>
     requires { of_filters (map judged nodes.now) ≡ None }
-    ensures { IfOk result (λ filters. filters ≡ map (λ node. node.filter) (map read nodes.now)) }
+    ensures { IfOk result (λ filters. filters ≡
+        map (λ node. node.filter) (map read nodes.now)) }
 {
     let mut filters = Items::new(alloc);
     for node in nodes {
@@ -148,7 +149,8 @@ pub(crate) fn build_formula(alloc: Global, node: &Node) -> Result<Formula, OutOf
 #[cycle(build_formula)]
 fn build_formulas(alloc: Global, nodes: &[Node]) -> Result<Items<Formula>, OutOfMemory>
     requires { of_formulas (map judged nodes.now) ≡ None }
-    ensures { IfOk result (λ formulas. formulas ≡ map (λ node. node.formula) (map read nodes.now)) }
+    ensures { IfOk result (λ formulas. formulas ≡
+        map (λ node. node.formula) (map read nodes.now)) }
 {
     let mut formulas = Items::new(alloc);
     for node in nodes {

@@ -54,7 +54,8 @@ pub(crate) fn filter_value(
 #[cycle(values)]
 #[tactic(auto, using(crate::proofs::Joining::both_again, crate::proofs::Joining::both_yes))]
 fn all_of(alloc: Global, parts: &[Filter], vars: &Vars) -> Result<Truth, OutOfMemory>
-    ensures { IfOk result (λ truth. truth ≡ all_of (map truth_of (map (filter_value vars.now) parts.now))) }
+    ensures { IfOk result (λ truth. truth ≡
+        all_of (map truth_of (map (filter_value vars.now) parts.now))) }
 {
     let mut truth = Truth::Yes;
     for part in parts {
@@ -66,7 +67,8 @@ fn all_of(alloc: Global, parts: &[Filter], vars: &Vars) -> Result<Truth, OutOfMe
 #[cycle(values)]
 #[tactic(auto, using(crate::proofs::Joining::either_again, crate::proofs::Joining::either_no))]
 fn any_of(alloc: Global, parts: &[Filter], vars: &Vars) -> Result<Truth, OutOfMemory>
-    ensures { IfOk result (λ truth. truth ≡ any_of (map truth_of (map (filter_value vars.now) parts.now))) }
+    ensures { IfOk result (λ truth. truth ≡
+        any_of (map truth_of (map (filter_value vars.now) parts.now))) }
 {
     let mut truth = Truth::No;
     for part in parts {

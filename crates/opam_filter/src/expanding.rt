@@ -36,7 +36,9 @@ fn filled(alloc: Global, inside: &str, vars: &Vars) -> Result<String, OutOfMemor
 
 // What stands for an interpolation whose variable has this value.
 fn written<'a>(value: &'a Option<VarValue>, inside: &'a str) -> &'a str
-    ensures { result.now ≡ (if list_any is_question inside.now then chosen (is_yes (truth_of value.now)) (after_first is_question inside.now) else shown value.now) }
+    ensures { result.now ≡ (if list_any is_question inside.now
+        then chosen (is_yes (truth_of value.now)) (after_first is_question inside.now)
+        else shown value.now) }
 {
     match inside.split_once('?') {
         Some((_, choice)) => chosen(is_yes(truth_of(value)), choice),

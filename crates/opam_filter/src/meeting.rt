@@ -1,7 +1,7 @@
 // What a set of packages meets, and what one package does.
-ghost use Rattle.std.specs.Prelude.{◌≡◌, IfOk, OnOk, fold, map};
+ghost use Rattle.std.specs.Prelude.{◌≡◌, IfOk, OnOk, map};
 ghost use Rattle.std.specs.List.{flat_map, list_all, list_any};
-ghost use Rattle.opam_filter.specs.NameSets.{with_name};
+ghost use Rattle.opam_filter.specs.NameSets.{with_names};
 ghost use Rattle.opam_filter.specs.Sets.{Rises, holds, is_met_by, kept_names, meets, names};
 
 use crate::reducing::is_met;
@@ -89,7 +89,7 @@ pub fn names(alloc: Global, reduced: &Reduced) -> Result<Items<Name>, OutOfMemor
 
 #[cycle(gather)]
 fn gather(alloc: Global, reduced: &Reduced, found: &mut BTreeSet<Name>) -> Result<(), OutOfMemory>
-    ensures { OnOk result (found.new.keys ≡ fold with_name found.old.keys (kept_names reduced.now)) }
+    ensures { OnOk result (found.new.keys ≡ with_names found.old.keys (kept_names reduced.now)) }
 {
     match reduced {
         Reduced::Dropped => Ok(()),
@@ -107,7 +107,8 @@ fn gather_all(
     parts: &[Reduced],
     found: &mut BTreeSet<Name>,
 ) -> Result<(), OutOfMemory>
-    ensures { OnOk result (found.new.keys ≡ fold with_name found.old.keys (flat_map (λ names. names) (map kept_names parts.now))) }
+    ensures { OnOk result (found.new.keys ≡ with_names found.old.keys
+        (flat_map (λ names. names) (map kept_names parts.now))) }
 {
     for part in parts {
         gather(alloc, part, found)?;

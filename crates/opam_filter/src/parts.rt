@@ -9,14 +9,16 @@ use std::alloc::Global;
 
 /// What stands between the `+` of a scope.
 pub(crate) fn scope_parts(alloc: Global, scope: &str) -> Result<Vec<&str>, OutOfMemory>
-    ensures { IfOk result (λ parts. map (λ part. part.now) parts.items ≡ scope_parts scope.now) }
+    ensures { IfOk result (λ parts.
+        map (λ part. part.now) parts.items ≡ scope_parts scope.now) }
 {
     Ok(scope.split('+').collect(alloc)?)
 }
 
 /// Whether they are two or more, each `_` or the name of a package.
 pub(crate) fn are_joined(parts: &[&str]) -> bool
-    ensures { result ≡ (nat_le 2 (length (map (λ part. part.now) parts.now)) && list_all is_package_part (map (λ part. part.now) parts.now)) }
+    ensures { result ≡ (nat_le 2 (length (map (λ part. part.now) parts.now))
+        && list_all is_package_part (map (λ part. part.now) parts.now)) }
 {
     parts.len() >= 2 && parts.iter().all(|part| is_package_part(part))
 }

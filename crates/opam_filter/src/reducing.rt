@@ -65,7 +65,8 @@ fn reduce_atom(
     braces: &Braces,
     vars: &Vars,
 ) -> Result<Reduced, OutOfMemory>
-    ensures { IfOk result (λ left. left ≡ layer_reduced vars.now (Formula-F.Atom name.now braces.now)) }
+    ensures { IfOk result (λ left. left ≡
+        layer_reduced vars.now (Formula-F.Atom name.now braces.now)) }
 {
     let test = test_of(alloc, braces, vars)?;
     if !is_kept(&test) {
@@ -126,7 +127,8 @@ fn test_truth(test: &Test, version: Option<&str>) -> Truth
 
 #[cycle(truth)]
 fn all_of(tests: &[Test], version: Option<&str>) -> Truth
-    ensures { result ≡ all_of (map (test_truth (counted (option_copied version.entry))) tests.now) }
+    ensures { result ≡
+        all_of (map (test_truth (counted (option_copied version.entry))) tests.now) }
 {
     let mut truth = Truth::Yes;
     for test in tests {
@@ -137,7 +139,8 @@ fn all_of(tests: &[Test], version: Option<&str>) -> Truth
 
 #[cycle(truth)]
 fn any_of(tests: &[Test], version: Option<&str>) -> Truth
-    ensures { result ≡ any_of (map (test_truth (counted (option_copied version.entry))) tests.now) }
+    ensures { result ≡
+        any_of (map (test_truth (counted (option_copied version.entry))) tests.now) }
 {
     let mut truth = Truth::No;
     for test in tests {

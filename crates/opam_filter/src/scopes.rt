@@ -44,7 +44,8 @@ fn joined_value(
     parts: &[&str],
     name: &str,
 ) -> Result<Option<VarValue>, OutOfMemory>
-    ensures { IfOk result (λ value. value ≡ joined_value vars.now (map (λ part. part.now) parts.now) name.now) }
+    ensures { IfOk result (λ value. value ≡
+        joined_value vars.now (map (λ part. part.now) parts.now) name.now) }
 {
     if name == "enable" {
         enable_value(alloc, all_in(alloc, vars, "installed", parts)?)
@@ -67,7 +68,8 @@ fn enable_value(alloc: Global, truth: Truth) -> Result<Option<VarValue>, OutOfMe
 // The `&` of the variables of this name with each part alone as scope.
 #[tactic(auto, using(crate::proofs::Joining::both_again, crate::proofs::Joining::both_yes))]
 fn all_in(alloc: Global, vars: &Vars, name: &str, parts: &[&str]) -> Result<Truth, OutOfMemory>
-    ensures { IfOk result (λ truth. truth ≡ all_in vars.now name.now (map (λ part. part.now) parts.now)) }
+    ensures { IfOk result (λ truth. truth ≡
+        all_in vars.now name.now (map (λ part. part.now) parts.now)) }
 {
     let mut variable = plain(alloc, name)?;
     let mut truth = Truth::Yes;
@@ -84,7 +86,8 @@ fn truth_in(
     scope: &str,
     variable: &mut Var,
 ) -> Result<Truth, OutOfMemory>
-    ensures truth { IfOk result (λ truth. truth ≡ truth_of (map.get vars.now (scoped scope.now variable.old.name))) }
+    ensures truth { IfOk result (λ truth. truth ≡
+        truth_of (map.get vars.now (scoped scope.now variable.old.name))) }
     ensures name { variable.new.name ≡ variable.old.name }
 {
     variable.scope = Some(word_of(alloc, scope)?);

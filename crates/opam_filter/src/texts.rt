@@ -17,7 +17,8 @@ pub(crate) struct Hole<'a> {
 
 pub(crate) fn first_hole(text: &str) -> Option<Hole<'_>>
     ensures none { IfNone result (parts_of text.now ≡ without_holes text.now) }
-    ensures some { IfSome result (λ hole. parts_of text.now ≡ with_hole hole.before.now hole.inside.now (parts_of hole.after.now)) }
+    ensures some { IfSome result (λ hole. parts_of text.now ≡
+        with_hole hole.before.now hole.inside.now (parts_of hole.after.now)) }
     ensures shorter { IfSome result (λ hole. length hole.after.now < length text.now) }
 {
     let (before, rest) = opened(text)?;
@@ -31,14 +32,16 @@ pub(crate) fn first_hole(text: &str) -> Option<Hole<'_>>
 
 // What stands before the first `%{`, and what stands after it.
 fn opened(text: &str) -> Option<(&str, &str)>
-    ensures { MatchOption result (opened text.now ≡ None) (λ cut. opened text.now ≡ Some (record { before = cut.0.now; after = cut.1.now })) }
+    ensures { MatchOption result (opened text.now ≡ None)
+        (λ cut. opened text.now ≡ Some (record { before = cut.0.now; after = cut.1.now })) }
 {
     text.split_once("%{")
 }
 
 // The same of `}%`.
 fn closed(text: &str) -> Option<(&str, &str)>
-    ensures { MatchOption result (closed text.now ≡ None) (λ cut. closed text.now ≡ Some (record { before = cut.0.now; after = cut.1.now })) }
+    ensures { MatchOption result (closed text.now ≡ None)
+        (λ cut. closed text.now ≡ Some (record { before = cut.0.now; after = cut.1.now })) }
 {
     text.split_once("}%")
 }
