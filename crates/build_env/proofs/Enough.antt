@@ -12,8 +12,8 @@ use Rattle.std.specs.declared.option.Option.TheVariants.{None, Some}
 use Rattle.opam_names.specs.Names.{IsName, is_letter, is_name, is_name_byte}
 use Rattle.opam_names.specs.declared.limits.TheConstants.{NAME_LIMIT}
 use Rattle.opam_names.specs.declared.packages.Pkg.{Pkg}
-use Rattle.opam_syntax.specs.Words.{scope_parts}
-use Rattle.opam_syntax.specs.declared.tree.Var.{Var}
+use Rattle.syntax_trees.specs.Words.{scope_parts}
+use Rattle.syntax_trees.specs.declared.tree.Var.{Var}
 use Rattle.opam_filter.specs.Asked.{asked, layer_names, names_in, names_in_text, names_of_scope}
 use Rattle.opam_filter.specs.Laws.{AgreeOn, AskedIsEnough, NamesRise, is_scope_among}
 use Rattle.opam_filter.specs.Scopes.{is_joined, value_at}

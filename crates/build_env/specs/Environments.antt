@@ -5,8 +5,8 @@ use Rattle.std.specs.Map.{lookup}
 use Rattle.std.specs.Option.{unwrap_or}
 use Rattle.opam_names.specs.ByteOrders.{byte_order}
 use Rattle.opam_names.specs.declared.packages.Pkg.{Pkg}
-use Rattle.opam_syntax.specs.declared.tree.EnvOp.{EnvOp}
-use Rattle.opam_syntax.specs.declared.tree.EnvOp.TheVariants.{Set, Before, After, BeforeKeep, AfterKeep}
+use Rattle.syntax_trees.specs.declared.tree.EnvOp.{EnvOp}
+use Rattle.syntax_trees.specs.declared.tree.EnvOp.TheVariants.{Set, Before, After, BeforeKeep, AfterKeep}
 use Rattle.opam_filter.specs.Texts.{expanded}
 use Rattle.opam_filter.specs.Variables.{Values}
 use Rattle.opam_package.specs.declared.package.EnvUpdate.{EnvUpdate}

@@ -9,7 +9,7 @@ use crate::members::vars_seen;
 use opam_filter::{Vars, expand};
 use opam_names::{Items, Name, OutOfMemory, Pkg, Text};
 use opam_package::{EnvUpdate, Package};
-use opam_syntax::EnvOp;
+use syntax_trees::EnvOp;
 use package_vars::Facts;
 use std::alloc::Global;
 use std::collections::BTreeMap;

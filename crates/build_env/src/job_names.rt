@@ -8,7 +8,7 @@ use crate::Export;
 use opam_filter::{Filter, asked, asked_in};
 use opam_names::{Items, Name, OutOfMemory};
 use opam_package::{Arg, Command, EnvUpdate, Package, Word};
-use opam_syntax::{Var, Word as VarWord};
+use syntax_trees::{Var, Word as VarWord};
 use std::alloc::Global;
 
 /// The names with which the commands of a package and its own updates look up variables.

@@ -5,12 +5,12 @@ use Rattle.std.proofs.lemmas.List.Elements.{All-append, All-cons, All-nil}
 use Rattle.std.specs.List.{All, flat_map}
 use Rattle.std.specs.declared.option.Option.{Option}
 use Rattle.std.specs.declared.option.Option.TheVariants.{None, Some}
-use Rattle.opam_syntax.specs.Files.{Contents, FieldContents, SectionContents}
-use Rattle.opam_syntax.specs.Trees.{items_of}
-use Rattle.opam_syntax.specs.declared.file.File.{File}
-use Rattle.opam_syntax.specs.declared.file.Key.{Key}
-use Rattle.opam_syntax.specs.declared.tree.Node.{Node}
-use Rattle.opam_syntax.specs.declared.tree.Span.{Span}
+use Rattle.syntax_trees.specs.Files.{Contents, FieldContents, SectionContents}
+use Rattle.syntax_trees.specs.Trees.{items_of}
+use Rattle.syntax_trees.specs.declared.file.File.{File}
+use Rattle.syntax_trees.specs.declared.file.Key.{Key}
+use Rattle.syntax_trees.specs.declared.tree.Node.{Node}
+use Rattle.syntax_trees.specs.declared.tree.Span.{Span}
 use Rattle.install_sections.specs.declared.fault.InstallFault.{InstallFault}
 use Rattle.install_sections.specs.declared.fault.InstallFault.TheVariants.{TooMany}
 use Rattle.install_sections.specs.declared.placement.Placement.{Placement}

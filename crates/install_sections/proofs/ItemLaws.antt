@@ -3,10 +3,10 @@ use Rattle.std.proofs.Common.{◌≡◌, ℕ, ◌||◌, not, nat_lt, Bool, true,
 use Rattle.std.specs.declared.option.Option.{Option}
 use Rattle.std.specs.declared.option.Option.TheVariants.{None, Some}
 use Rattle.opam_names.specs.Paths.{is_above, is_relative_path, joined}
-use Rattle.opam_syntax.specs.Signs.{begins_with}
-use Rattle.opam_syntax.specs.declared.tree.Node.{Node}
-use Rattle.opam_syntax.specs.declared.tree.Span.{Span}
-use Rattle.opam_syntax.specs.declared.tree.Value.TheOpen.{Value-F}
+use Rattle.syntax_trees.specs.Signs.{begins_with}
+use Rattle.syntax_trees.specs.declared.tree.Node.{Node}
+use Rattle.syntax_trees.specs.declared.tree.Span.{Span}
+use Rattle.syntax_trees.specs.declared.tree.Value.TheOpen.{Value-F}
 use Rattle.install_sections.specs.declared.fault.InstallFault.{InstallFault}
 use Rattle.install_sections.specs.declared.fault.InstallFault.TheVariants.{NotAnItem, Unsafe}
 use Rattle.install_sections.specs.declared.placement.Placement.{Placement}

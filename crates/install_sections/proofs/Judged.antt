@@ -12,8 +12,8 @@ use Rattle.install_sections.specs.declared.fault.InstallFault.TheVariants.{Synta
 use Rattle.install_sections.specs.InstallFaults.{IsFirstOf, sooner, first_fault}
 use Rattle.install_sections.specs.Judgements.{unread, with_verdict}
 use Rattle.install_sections.specs.Placements.{excess_faults, faults_in, file_verdicts, items_in, placements_in, verdict_faults, verdict_placements}
-use Rattle.opam_syntax.specs.Trees.{items_of}
-use Rattle.opam_syntax.specs.declared.file.File.{File}
+use Rattle.syntax_trees.specs.Trees.{items_of}
+use Rattle.syntax_trees.specs.declared.file.File.{File}
 use Rattle.install_sections.proofs.FirstFaults.{first_of_both, sooner_assoc, sooner_none}
 
 pub all_placements : (verdicts : List Verdict) (known : Judgement)

@@ -2,8 +2,8 @@
 use Rattle.std.proofs.Common.{ℕ, List, IfErr}
 use Rattle.std.specs.declared.result.Result.{Result}
 use Rattle.std.specs.declared.result.Result.TheVariants.{Ok, Err}
-use Rattle.opam_syntax.specs.Trees.{IsTextOf}
-use Rattle.opam_syntax.specs.declared.file.File.{File}
+use Rattle.syntax_trees.specs.Trees.{IsTextOf}
+use Rattle.syntax_trees.specs.declared.file.File.{File}
 use Rattle.install_sections.specs.declared.fault.InstallFault.{InstallFault}
 use Rattle.install_sections.specs.declared.placement.Placement.{Placement}
 use Rattle.install_sections.specs.InstallFaults.{IsFirstOf}

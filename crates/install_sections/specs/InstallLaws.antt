@@ -5,8 +5,8 @@ use Rattle.std.specs.declared.option.Option.TheVariants.{None, Some}
 use Rattle.opam_names.specs.Names.{IsName}
 use Rattle.opam_names.specs.Paths.{is_above, is_relative_path, joined}
 use Rattle.opam_names.specs.declared.limits.TheConstants.{PATH_LIMIT}
-use Rattle.opam_syntax.specs.declared.file.File.{File}
-use Rattle.opam_syntax.specs.declared.tree.Node.{Node}
+use Rattle.syntax_trees.specs.declared.file.File.{File}
+use Rattle.syntax_trees.specs.declared.tree.Node.{Node}
 use Rattle.install_sections.specs.declared.limits.TheConstants.{ITEM_LIMIT}
 use Rattle.install_sections.specs.declared.placement.Placement.{Placement}
 use Rattle.install_sections.specs.declared.placement.Verdict.TheVariants.{Places}

@@ -2,10 +2,10 @@
 use Rattle.std.specs.List.{fold}
 use Rattle.std.specs.Prelude.{ℕ, List, [], ◌∷◌, ◌++◌}
 use Rattle.std.specs.declared.option.Option.TheVariants.{None, Some}
-use Rattle.opam_syntax.specs.Trees.{contents_of}
-use Rattle.opam_syntax.specs.declared.file.Item.{Item}
-use Rattle.opam_syntax.specs.declared.file.Key.{Key}
-use Rattle.opam_syntax.specs.declared.tree.Span.{Span}
+use Rattle.syntax_trees.specs.Trees.{contents_of}
+use Rattle.syntax_trees.specs.declared.file.Item.{Item}
+use Rattle.syntax_trees.specs.declared.file.Key.{Key}
+use Rattle.syntax_trees.specs.declared.tree.Span.{Span}
 use Rattle.install_sections.specs.declared.judging.Judgement.{Judgement}
 use Rattle.install_sections.specs.declared.placement.Verdict.{Verdict}
 use Rattle.install_sections.specs.declared.placement.Verdict.TheVariants.{Places, Fails}

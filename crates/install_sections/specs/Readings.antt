@@ -2,9 +2,9 @@
 use Rattle.std.specs.Prelude.{◌≡◌, ℕ, List}
 use Rattle.std.specs.declared.option.Option.TheVariants.{None}
 use Rattle.opam_syntax.specs.Reading.{IsDoubledWhereTold, IsRefused}
-use Rattle.opam_syntax.specs.Trees.{IsTextOf}
-use Rattle.opam_syntax.specs.declared.fault.SyntaxFault.{SyntaxFault}
-use Rattle.opam_syntax.specs.declared.file.File.{File}
+use Rattle.syntax_trees.specs.Trees.{IsTextOf}
+use Rattle.syntax_trees.specs.declared.fault.SyntaxFault.{SyntaxFault}
+use Rattle.syntax_trees.specs.declared.file.File.{File}
 use Rattle.install_sections.specs.declared.fault.InstallFault.{InstallFault}
 use Rattle.install_sections.specs.declared.fault.InstallFault.TheVariants.{Syntax, Memory}
 use Rattle.install_sections.specs.declared.placement.Placement.{Placement}

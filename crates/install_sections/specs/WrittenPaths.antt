@@ -6,7 +6,7 @@ use Rattle.std.specs.declared.option.Option.{Option}
 use Rattle.std.specs.declared.option.Option.TheVariants.{None, Some}
 use Rattle.opam_names.specs.Paths.{is_relative_path, is_slash, parts}
 use Rattle.opam_names.specs.declared.limits.TheConstants.{PATH_LIMIT}
-use Rattle.opam_syntax.specs.Signs.{begins_with}
+use Rattle.syntax_trees.specs.Signs.{begins_with}
 
 -- a part that counts
 abbrev pub counts : List ℕ → Bool

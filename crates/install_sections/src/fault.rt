@@ -3,7 +3,7 @@ ghost use Rattle.std.specs.Prelude.{◌≡◌};
 ghost use Rattle.install_sections.specs.declared.fault.InstallFault.TheVariants.{Memory};
 
 use opam_names::OutOfMemory;
-use opam_syntax::{Span, SyntaxFault};
+use syntax_trees::{Span, SyntaxFault};
 use std::alloc::AllocError;
 
 /// What is wrong with an install file, and where (opam manual, package definitions: `.install` files).

@@ -11,7 +11,7 @@ use crate::verdicts::verdict;
 use crate::views::{list_in, values_of};
 use crate::{InstallFault, Placement, Section, Verdict};
 use opam_names::{Items, Name, OutOfMemory};
-use opam_syntax::{File, Item, Key, Node, Span};
+use syntax_trees::{File, Item, Key, Node, Span};
 use std::alloc::Global;
 
 /// What is known after some items: the files of those that are placed, and the first fault.

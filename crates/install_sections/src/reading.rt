@@ -1,7 +1,7 @@
 // Install files: what they place, and what is wrong with them.
 ghost use Rattle.std.specs.Prelude.{[], ◌≡◌, ◌≤◌, ◌∷◌, IfErr, IfOk, OnOk, length};
 ghost use Rattle.std.specs.declared.option.Option.TheVariants.{None};
-ghost use Rattle.opam_syntax.specs.Trees.{contents_of, items_of};
+ghost use Rattle.syntax_trees.specs.Trees.{contents_of, items_of};
 ghost use Rattle.install_sections.specs.InstallFaults.{IsFirstOf, first_fault};
 ghost use Rattle.install_sections.specs.Placements as placements;
 ghost use Rattle.install_sections.specs.Placements.{excess_faults, faults_in, items_in, placements_in};
@@ -12,7 +12,8 @@ use crate::limits::ITEM_LIMIT;
 use crate::views::values_of;
 use crate::{InstallFault, Placement, Section};
 use opam_names::{Items, Name};
-use opam_syntax::{FILE_LIMIT, File, Item, Node, SyntaxFault, read_file};
+use opam_syntax::read_file;
+use syntax_trees::{FILE_LIMIT, File, Item, Node, SyntaxFault};
 use std::alloc::Global;
 
 // The values of a field that is a section.

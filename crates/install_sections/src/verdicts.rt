@@ -10,7 +10,7 @@ use crate::views::text_in;
 use crate::written_paths::{path_in, safe_path};
 use crate::{InstallFault, Placement, Section, Verdict};
 use opam_names::{Name, OutOfMemory, RelPath};
-use opam_syntax::{Node, Span, Value};
+use syntax_trees::{Node, Span, Value};
 use std::alloc::Global;
 
 fn is_optional(text: &[u8]) -> bool

@@ -3,7 +3,7 @@ ghost use Rattle.std.specs.Option.{option_copied};
 ghost use Rattle.std.specs.Prelude.{◌≡◌};
 ghost use Rattle.install_sections.specs.Views as views;
 
-use opam_syntax::{Node, Value};
+use syntax_trees::{Node, Value};
 use std::slice;
 
 /// The bytes of a text.

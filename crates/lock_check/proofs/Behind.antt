@@ -3,7 +3,7 @@ use Rattle.std.proofs.Common.{◌≡◌, ℕ, ◌+◌, ◌<◌, List, ◌∷◌,
 use Rattle.std.specs.declared.option.Option.{Option}
 use Rattle.std.proofs.lemmas.List.{drop_more}
 use Rattle.opam_names.specs.declared.packages.Pkg.{Pkg}
-use Rattle.opam_syntax.specs.declared.tree.Node.{Node}
+use Rattle.syntax_trees.specs.declared.tree.Node.{Node}
 use Rattle.lock_check.specs.declared.lock_fault.LockFault.{LockFault}
 use Rattle.lock_check.specs.LockFaults.{first_lock_fault, sooner_lock_fault}
 use Rattle.lock_check.specs.LockItems.{faults_behind, faults_of_pkg, item_pkg, names_with}

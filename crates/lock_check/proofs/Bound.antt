@@ -8,7 +8,7 @@ use Rattle.std.proofs.lemmas.List.{drop_more}
 use Rattle.std.proofs.lemmas.Slice.Eq.{bytes_eq-Decides}
 use Rattle.opam_names.specs.ByteOrders.{in_order_by}
 use Rattle.opam_names.specs.declared.packages.Pkg.{Pkg}
-use Rattle.opam_syntax.specs.declared.tree.Node.{Node}
+use Rattle.syntax_trees.specs.declared.tree.Node.{Node}
 use Rattle.opam_filter.specs.NameSets.{with_name}
 use Rattle.opam_filter.specs.Sets.{Rises}
 use Rattle.opam_filter.specs.Variables.{Values}

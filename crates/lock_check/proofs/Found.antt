@@ -2,7 +2,7 @@
 use Rattle.std.proofs.Common.{List, ◌∷◌}
 use Rattle.std.specs.declared.option.Option.{Option}
 use Rattle.std.specs.declared.option.Option.TheVariants.{None, Some}
-use Rattle.opam_syntax.specs.declared.tree.Node.{Node}
+use Rattle.syntax_trees.specs.declared.tree.Node.{Node}
 
 -- what was found, and then others
 abbrev pub found_and : Option Node → List Node → List Node

@@ -7,11 +7,11 @@ use Rattle.std.specs.declared.result.Result.TheVariants.{Ok, Err}
 use Rattle.opam_names.specs.ByteOrders.{in_order_by}
 use Rattle.opam_names.specs.declared.packages.Pkg.{Pkg}
 use Rattle.opam_syntax.specs.Reading.{IsDoubledWhereTold, IsRefused}
-use Rattle.opam_syntax.specs.Trees.{IsTextOf}
-use Rattle.opam_syntax.specs.declared.fault.SyntaxFault.{SyntaxFault}
-use Rattle.opam_syntax.specs.declared.fault.SyntaxFault.TheVariants as syntax
-use Rattle.opam_syntax.specs.declared.file.File.{File}
-use Rattle.opam_syntax.specs.declared.tree.Node.{Node}
+use Rattle.syntax_trees.specs.Trees.{IsTextOf}
+use Rattle.syntax_trees.specs.declared.fault.SyntaxFault.{SyntaxFault}
+use Rattle.syntax_trees.specs.declared.fault.SyntaxFault.TheVariants as syntax
+use Rattle.syntax_trees.specs.declared.file.File.{File}
+use Rattle.syntax_trees.specs.declared.tree.Node.{Node}
 use Rattle.opam_filter.specs.Variables.{Values}
 use Rattle.lock_check.specs.declared.lock.Lock.{Lock}
 use Rattle.lock_check.specs.declared.lock_fault.LockFault.{LockFault}

@@ -7,9 +7,9 @@ use Rattle.std.specs.declared.option.Option.TheVariants.{None, Some}
 use Rattle.opam_names.specs.ByteOrders.{in_order_by}
 use Rattle.opam_names.specs.Names.{is_name, is_version}
 use Rattle.opam_names.specs.declared.packages.Pkg.{Pkg}
-use Rattle.opam_syntax.specs.declared.tree.Node.{Node}
-use Rattle.opam_syntax.specs.declared.tree.RelOp.TheVariants.{Eq}
-use Rattle.opam_syntax.specs.declared.tree.Value.TheOpen.{Value-F}
+use Rattle.syntax_trees.specs.declared.tree.Node.{Node}
+use Rattle.syntax_trees.specs.declared.tree.RelOp.TheVariants.{Eq}
+use Rattle.syntax_trees.specs.declared.tree.Value.TheOpen.{Value-F}
 use Rattle.opam_filter.specs.Faults.{judged}
 use Rattle.opam_filter.specs.NameSets.{with_name}
 use Rattle.opam_filter.specs.Trees.{read}

@@ -3,13 +3,13 @@ use Rattle.std.specs.Prelude.{◌≡◌, ◌≢◌, ℕ, List, [], codes}
 use Rattle.std.specs.declared.option.Option.{Option}
 use Rattle.std.specs.declared.option.Option.TheVariants.{Some}
 use Rattle.opam_names.specs.declared.packages.Pkg.{Pkg}
-use Rattle.opam_syntax.specs.Lookup.{field_value}
+use Rattle.syntax_trees.specs.Lookup.{field_value}
 use Rattle.opam_syntax.specs.Reading.{IsDoubledWhereTold, IsRefused}
-use Rattle.opam_syntax.specs.Trees.{IsTextOf}
-use Rattle.opam_syntax.specs.declared.fault.SyntaxFault.{SyntaxFault}
-use Rattle.opam_syntax.specs.declared.fault.SyntaxFault.TheVariants as syntax
-use Rattle.opam_syntax.specs.declared.file.File.{File}
-use Rattle.opam_syntax.specs.declared.tree.Node.{Node}
+use Rattle.syntax_trees.specs.Trees.{IsTextOf}
+use Rattle.syntax_trees.specs.declared.fault.SyntaxFault.{SyntaxFault}
+use Rattle.syntax_trees.specs.declared.fault.SyntaxFault.TheVariants as syntax
+use Rattle.syntax_trees.specs.declared.file.File.{File}
+use Rattle.syntax_trees.specs.declared.tree.Node.{Node}
 use Rattle.opam_filter.specs.Variables.{Values}
 use Rattle.lock_check.specs.declared.lock_fault.LockFault.{LockFault}
 use Rattle.lock_check.specs.declared.lock_fault.LockFault.TheVariants.{Memory, Syntax}

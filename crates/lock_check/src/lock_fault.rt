@@ -7,7 +7,7 @@ ghost use Rattle.lock_check.specs.declared.lock_fault.LockFault.TheVariants.{Mem
 
 use opam_filter::FilterFault;
 use opam_names::OutOfMemory;
-use opam_syntax::{Span, SyntaxFault};
+use syntax_trees::{Span, SyntaxFault};
 use std::alloc::{AllocError, AllocFailed};
 
 /// What is wrong with a lock file, and where.

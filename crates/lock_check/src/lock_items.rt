@@ -16,7 +16,7 @@ use crate::LockFault;
 use crate::lock_fault::{inner_fault, sooner};
 use opam_filter::{FilterFault, Truth, Vars, eval, filter_fault, read_filter};
 use opam_names::{Items, Name, OutOfMemory, Pkg, ReadFault, Version};
-use opam_syntax::{Node, RelOp, Value};
+use syntax_trees::{Node, RelOp, Value};
 use std::alloc::Global;
 use std::collections::BTreeSet;
 use std::slice;

@@ -9,7 +9,8 @@ use crate::lock_items::{bind_items, items_fault, values_of};
 use crate::{Lock, LockFault};
 use opam_filter::Vars;
 use opam_names::{OutOfMemory, Pkg, order_is_stable};
-use opam_syntax::{FILE_LIMIT, File, Node, SyntaxFault, read_file};
+use opam_syntax::read_file;
+use syntax_trees::{FILE_LIMIT, File, Node, SyntaxFault};
 use std::alloc::Global;
 
 fn lock_items(file: &File) -> &[Node]

@@ -10,8 +10,8 @@ use Rattle.std.specs.Prelude.{bytes_eq, codes}
 use Rattle.std.specs.declared.option.Option.{Option}
 use Rattle.std.specs.declared.option.Option.TheVariants.{None, Some}
 use Rattle.opam_names.specs.Names.{is_name}
-use Rattle.opam_syntax.specs.Words.{scope_parts}
-use Rattle.opam_syntax.specs.declared.tree.Var.{Var}
+use Rattle.syntax_trees.specs.Words.{scope_parts}
+use Rattle.syntax_trees.specs.declared.tree.Var.{Var}
 use Rattle.opam_names.specs.ByteOrderLaws.{TextsRise}
 use Rattle.opam_filter.specs.Asked.{layer_names, names_in, names_in_text, names_of_scope}
 use Rattle.opam_filter.specs.Laws.{AgreeOn, AreEachOnce, AskedIsEnough, NamesRise, is_scope_among}

@@ -5,15 +5,15 @@ use Rattle.std.specs.declared.option.Option.TheVariants.{None}
 use Rattle.std.specs.declared.option.Option.{Option}
 use Rattle.std.specs.declared.result.Result.{Result}
 use Rattle.std.proofs.lemmas.List.{drop_more}
-use Rattle.opam_syntax.specs.declared.tree.Node.{Node}
-use Rattle.opam_syntax.specs.declared.tree.Span.{Span}
-use Rattle.opam_syntax.specs.declared.tree.RelOp.{RelOp}
-use Rattle.opam_syntax.specs.declared.tree.Value.{Value, roll-Value}
-use Rattle.opam_syntax.specs.declared.tree.Value.TheVariants as variants
-use Rattle.opam_syntax.specs.declared.tree.Value.TheViews.{out-Value, roll-out-Value}
-use Rattle.opam_syntax.specs.declared.tree.Value.TheOpen.{Value-F}
-use Rattle.opam_syntax.specs.declared.tree.Value.TheFolds.{fold-Value, map-Value}
-use Rattle.opam_syntax.proofs.Folds.{fold_node, node_at}
+use Rattle.syntax_trees.specs.declared.tree.Node.{Node}
+use Rattle.syntax_trees.specs.declared.tree.Span.{Span}
+use Rattle.syntax_trees.specs.declared.tree.RelOp.{RelOp}
+use Rattle.syntax_trees.specs.declared.tree.Value.{Value, roll-Value}
+use Rattle.syntax_trees.specs.declared.tree.Value.TheVariants as variants
+use Rattle.syntax_trees.specs.declared.tree.Value.TheViews.{out-Value, roll-out-Value}
+use Rattle.syntax_trees.specs.declared.tree.Value.TheOpen.{Value-F}
+use Rattle.syntax_trees.specs.declared.tree.Value.TheFolds.{fold-Value, map-Value}
+use Rattle.syntax_trees.proofs.Folds.{fold_node, node_at}
 use Rattle.opam_filter.specs.declared.formula.Formula.{Formula}
 use Rattle.opam_filter.specs.declared.formula.Formula.TheVariants as formulas
 use Rattle.opam_filter.specs.declared.fault.FilterFault.{FilterFault}

@@ -3,7 +3,7 @@ use Rattle.std.proofs.Common.{◌≡◌, ℕ, Bool, true, false, nat_lt, ◌==�
 use Rattle.std.specs.declared.option.Option.{Option}
 use Rattle.std.specs.declared.option.Option.TheVariants.{None, Some}
 use Rattle.std.proofs.lemmas.Bool.Decides.{nat_tests}
-use Rattle.opam_syntax.specs.declared.tree.Span.{Span}
+use Rattle.syntax_trees.specs.declared.tree.Span.{Span}
 use Rattle.opam_filter.specs.declared.fault.FilterFault.{FilterFault}
 use Rattle.opam_filter.specs.declared.fault.FilterFault.TheVariants.{NotAFilter}
 use Rattle.opam_filter.specs.Faults.{place_of, rank_of, comes_before, earlier, no_filter}

@@ -5,11 +5,11 @@ use Rattle.std.specs.List.{Contains, flat_map, list_any}
 use Rattle.std.specs.declared.option.Option.{Option}
 use Rattle.std.specs.declared.option.Option.TheVariants.{None, Some}
 use Rattle.opam_names.specs.Names.{is_name}
-use Rattle.opam_syntax.specs.declared.tree.Node.{Node, roll-Node}
-use Rattle.opam_syntax.specs.declared.tree.Span.{Span}
-use Rattle.opam_syntax.specs.declared.tree.Value.{Value, roll-Value}
-use Rattle.opam_syntax.specs.declared.tree.Value.TheOpen.{Value-F, Node-F}
-use Rattle.opam_syntax.specs.declared.tree.Value.TheFolds.{fold-Value, fold-roll-Node, fold-roll-Value, ind-Node, map-Value}
+use Rattle.syntax_trees.specs.declared.tree.Node.{Node, roll-Node}
+use Rattle.syntax_trees.specs.declared.tree.Span.{Span}
+use Rattle.syntax_trees.specs.declared.tree.Value.{Value, roll-Value}
+use Rattle.syntax_trees.specs.declared.tree.Value.TheOpen.{Value-F, Node-F}
+use Rattle.syntax_trees.specs.declared.tree.Value.TheFolds.{fold-Value, fold-roll-Node, fold-roll-Value, ind-Node, map-Value}
 use Rattle.opam_filter.specs.declared.fault.FilterFault.{FilterFault}
 use Rattle.opam_filter.specs.declared.fault.FilterFault.TheVariants.{NotAFilter, NotText, BadName, NegatedVersion}
 use Rattle.opam_filter.specs.Faults.{Judged, Shape, braces_role, constrains_role, earlier, earliest, filter_role, formula_role, is_text, judged, name_fault, name_role, negation, no_filter, node_judged, of_filters, shape_judged, side_role, some_constrains, text_fault, version_role}

@@ -2,15 +2,15 @@
 use Rattle.std.proofs.Common.{◌⊎◌, inl, inr, ◌≡◌, ℕ, ◌+◌, ◌<◌, ◌≤◌, length, get_or, List, [], ◌∷◌, map, drop, sym, ap, refl, ◌∙◌, arith}
 use Rattle.std.specs.declared.option.Option.{Option}
 use Rattle.std.proofs.lemmas.List.{drop_more}
-use Rattle.opam_syntax.specs.declared.tree.Node.{Node}
-use Rattle.opam_syntax.specs.declared.tree.Span.{Span}
-use Rattle.opam_syntax.specs.declared.tree.Value.{Value, roll-Value}
-use Rattle.opam_syntax.specs.declared.tree.Value.TheVariants as variants
-use Rattle.opam_syntax.specs.declared.tree.Value.TheViews.{out-Value, roll-out-Value}
-use Rattle.opam_syntax.specs.declared.tree.RelOp.{RelOp}
-use Rattle.opam_syntax.specs.declared.tree.Value.TheOpen.{Value-F}
-use Rattle.opam_syntax.specs.declared.tree.Value.TheFolds.{fold-Value, map-Value}
-use Rattle.opam_syntax.proofs.Folds.{fold_node, node_at}
+use Rattle.syntax_trees.specs.declared.tree.Node.{Node}
+use Rattle.syntax_trees.specs.declared.tree.Span.{Span}
+use Rattle.syntax_trees.specs.declared.tree.Value.{Value, roll-Value}
+use Rattle.syntax_trees.specs.declared.tree.Value.TheVariants as variants
+use Rattle.syntax_trees.specs.declared.tree.Value.TheViews.{out-Value, roll-out-Value}
+use Rattle.syntax_trees.specs.declared.tree.RelOp.{RelOp}
+use Rattle.syntax_trees.specs.declared.tree.Value.TheOpen.{Value-F}
+use Rattle.syntax_trees.specs.declared.tree.Value.TheFolds.{fold-Value, map-Value}
+use Rattle.syntax_trees.proofs.Folds.{fold_node, node_at}
 use Rattle.opam_filter.specs.declared.fault.FilterFault.{FilterFault}
 use Rattle.opam_filter.specs.Faults.{Judged, earlier, earliest, judged, shape_judged, node_judged, no_filter, of_filters, of_formulas, some_constrains, filter_group, braces_group, filter_role, braces_role, Shape}
 use Rattle.opam_filter.proofs.Earliest.{earlier_assoc}

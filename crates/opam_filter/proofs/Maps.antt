@@ -11,7 +11,7 @@ use Rattle.std.specs.Option.{option_cmp}
 use Rattle.std.specs.Ordering.{nat_cmp}
 use Rattle.std.specs.declared.option.Option.{Option}
 use Rattle.std.specs.declared.option.Option.TheVariants.{None, Some}
-use Rattle.opam_syntax.specs.declared.tree.Var.{Var}
+use Rattle.syntax_trees.specs.declared.tree.Var.{Var}
 use Rattle.opam_filter.specs.Variables.{Values, var_cmp}
 use Rattle.opam_filter.specs.declared.truth.VarValue.{VarValue}
 

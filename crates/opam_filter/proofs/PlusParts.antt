@@ -5,7 +5,7 @@ use Rattle.std.proofs.lemmas.List.Folds.{list_all-map}
 use Rattle.std.specs.List.{list_all, slice_split}
 use Rattle.std.specs.List as list
 use Rattle.opam_names.specs.Paths.{onto_first}
-use Rattle.opam_syntax.specs.Words.{scope_parts}
+use Rattle.syntax_trees.specs.Words.{scope_parts}
 use Rattle.opam_filter.specs.Scopes.{is_package_part}
 
 same_onto : (b : ℕ) (parts : List (List ℕ)) → list.onto_first b parts ≡ onto_first b parts

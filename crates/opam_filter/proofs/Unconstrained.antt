@@ -4,15 +4,15 @@ use Rattle.std.specs.Prelude.{if◌then◌else◌}
 use Rattle.std.specs.List.{AllByRecursion}
 use Rattle.std.specs.declared.option.Option.TheVariants.{None, Some}
 use Rattle.std.proofs.lemmas.Bool.{false≢true}
-use Rattle.opam_syntax.specs.declared.tree.Node.{Node, roll-Node}
-use Rattle.opam_syntax.specs.declared.tree.Span.{Span}
-use Rattle.opam_syntax.specs.declared.tree.Value.{Value, roll-Value}
-use Rattle.opam_syntax.specs.declared.tree.Value.TheOpen.{Value-F, Node-F}
-use Rattle.opam_syntax.specs.declared.tree.Value.TheFolds.{fold-Value, fold-roll-Node, fold-roll-Value, ind-Node, map-Value}
+use Rattle.syntax_trees.specs.declared.tree.Node.{Node, roll-Node}
+use Rattle.syntax_trees.specs.declared.tree.Span.{Span}
+use Rattle.syntax_trees.specs.declared.tree.Value.{Value, roll-Value}
+use Rattle.syntax_trees.specs.declared.tree.Value.TheOpen.{Value-F, Node-F}
+use Rattle.syntax_trees.specs.declared.tree.Value.TheFolds.{fold-Value, fold-roll-Node, fold-roll-Value, ind-Node, map-Value}
 use Rattle.opam_filter.specs.declared.fault.FilterFault.TheVariants.{NegatedVersion}
-use Rattle.opam_syntax.specs.declared.tree.RelOp.{RelOp}
-use Rattle.opam_syntax.specs.declared.tree.Value.TheVariants as variants
-use Rattle.opam_syntax.specs.declared.tree.Value.TheViews.{out-Value, roll-out-Value}
+use Rattle.syntax_trees.specs.declared.tree.RelOp.{RelOp}
+use Rattle.syntax_trees.specs.declared.tree.Value.TheVariants as variants
+use Rattle.syntax_trees.specs.declared.tree.Value.TheViews.{out-Value, roll-out-Value}
 use Rattle.opam_filter.proofs.Earliest.{earlier_left, earlier_right, some_fault}
 use Rattle.opam_filter.proofs.Judged.{IsApart, filter_there, judged_as, shape_of}
 use Rattle.opam_filter.specs.Faults.{Judged, Shape, braces_group, braces_role, constrains_role, earlier, filter_group, filter_role, judged, negation, node_judged, of_braces, of_filters, shape_judged, some_constrains}

@@ -4,7 +4,7 @@ use Rattle.std.specs.List.{flat_map}
 use Rattle.std.specs.declared.option.Option.{Option}
 use Rattle.std.specs.declared.option.Option.TheVariants.{None, Some}
 use Rattle.opam_names.specs.Names.{is_name}
-use Rattle.opam_syntax.specs.Words.{scope_parts}
+use Rattle.syntax_trees.specs.Words.{scope_parts}
 use Rattle.opam_filter.specs.NameSets.{in_byte_order}
 use Rattle.opam_filter.specs.Scopes.{is_joined}
 use Rattle.opam_filter.specs.Texts.{asked_for, parts_of}

@@ -5,10 +5,10 @@ use Rattle.std.specs.List.{flat_map, list_any}
 use Rattle.std.specs.declared.option.Option.{Option}
 use Rattle.std.specs.declared.option.Option.TheVariants.{None, Some}
 use Rattle.opam_names.specs.Names.{is_name}
-use Rattle.opam_syntax.specs.declared.tree.Node.{Node}
-use Rattle.opam_syntax.specs.declared.tree.Span.{Span}
-use Rattle.opam_syntax.specs.declared.tree.Value.TheOpen.{Value-F, Node-F}
-use Rattle.opam_syntax.specs.declared.tree.Value.TheFolds.{fold-Node}
+use Rattle.syntax_trees.specs.declared.tree.Node.{Node}
+use Rattle.syntax_trees.specs.declared.tree.Span.{Span}
+use Rattle.syntax_trees.specs.declared.tree.Value.TheOpen.{Value-F, Node-F}
+use Rattle.syntax_trees.specs.declared.tree.Value.TheFolds.{fold-Node}
 use Rattle.opam_filter.specs.declared.fault.FilterFault.{FilterFault}
 use Rattle.opam_filter.specs.declared.fault.FilterFault.TheVariants.{NotAFilter, NotAFormula, NotText, BadName, NegatedVersion}
 use Rattle.opam_filter.specs.Faults.{Judged, comes_before, earliest, is_text, judged}

@@ -7,7 +7,7 @@ use Rattle.std.specs.declared.option.Option.{Option}
 use Rattle.std.specs.declared.option.Option.TheVariants.{None, Some}
 use Rattle.opam_names.specs.Names.{is_name}
 use Rattle.opam_names.specs.declared.packages.Pkg.{Pkg}
-use Rattle.opam_syntax.specs.declared.tree.Var.{Var}
+use Rattle.syntax_trees.specs.declared.tree.Var.{Var}
 use Rattle.opam_names.specs.ByteOrders.{RisesBy}
 use Rattle.opam_filter.specs.Asked.{asked, asked_in, names_in, names_in_text}
 use Rattle.opam_filter.specs.Faults.{comes_before, earlier, earliest}

@@ -4,7 +4,7 @@ use Rattle.std.specs.Option.{option_map}
 use Rattle.std.specs.declared.option.Option.{Option}
 use Rattle.std.specs.declared.option.Option.TheVariants.{None, Some}
 use Rattle.opam_names.specs.Orders.{text_order}
-use Rattle.opam_syntax.specs.declared.tree.RelOp.{RelOp}
+use Rattle.syntax_trees.specs.declared.tree.RelOp.{RelOp}
 use Rattle.opam_filter.specs.Truths.{all_of, any_of, is_related, is_yes, truth_of_flag, word_of}
 use Rattle.opam_filter.specs.Values.{filter_truth, filter_value}
 use Rattle.opam_filter.specs.Variables.{Values}

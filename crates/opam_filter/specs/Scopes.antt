@@ -5,8 +5,8 @@ use Rattle.std.specs.List.{list_all}
 use Rattle.std.specs.declared.option.Option.{Option}
 use Rattle.std.specs.declared.option.Option.TheVariants.{None, Some}
 use Rattle.opam_names.specs.Names.{is_name}
-use Rattle.opam_syntax.specs.Words.{scope_parts}
-use Rattle.opam_syntax.specs.declared.tree.Var.{Var}
+use Rattle.syntax_trees.specs.Words.{scope_parts}
+use Rattle.syntax_trees.specs.declared.tree.Var.{Var}
 use Rattle.opam_filter.specs.Truths.{all_of, truth_of, value_of}
 use Rattle.opam_filter.specs.Variables.{Values}
 use Rattle.opam_filter.specs.declared.truth.Truth.{Truth}

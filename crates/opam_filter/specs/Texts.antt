@@ -4,7 +4,7 @@ use Rattle.std.specs.List.{before_first, after_first, flat_map, list_any}
 use Rattle.std.specs.Option.{option_map}
 use Rattle.std.specs.declared.option.Option.{Option}
 use Rattle.std.specs.declared.option.Option.TheVariants.{None, Some}
-use Rattle.opam_syntax.specs.declared.tree.Var.{Var}
+use Rattle.syntax_trees.specs.declared.tree.Var.{Var}
 use Rattle.opam_filter.specs.Scopes.{plain, scoped, value_at}
 use Rattle.opam_filter.specs.Truths.{is_yes, truth_of, word_of}
 use Rattle.opam_filter.specs.Variables.{Values}

@@ -1,8 +1,8 @@
 -- The filter, the braces and the formula that a node is, where it has no fault in that place.
 use Rattle.std.specs.Prelude.{ℕ, List, [], ◌∷◌, map}
-use Rattle.opam_syntax.specs.declared.tree.Node.{Node}
-use Rattle.opam_syntax.specs.declared.tree.Value.TheOpen.{Value-F, Node-F}
-use Rattle.opam_syntax.specs.declared.tree.Value.TheFolds.{fold-Node}
+use Rattle.syntax_trees.specs.declared.tree.Node.{Node}
+use Rattle.syntax_trees.specs.declared.tree.Value.TheOpen.{Value-F, Node-F}
+use Rattle.syntax_trees.specs.declared.tree.Value.TheFolds.{fold-Node}
 use Rattle.opam_filter.specs.declared.filter.Filter.{Filter, roll-Filter}
 use Rattle.opam_filter.specs.declared.filter.Filter.TheOpen.{Filter-F}
 use Rattle.opam_filter.specs.declared.formula.Formula.{Formula, roll-Formula}

@@ -5,8 +5,8 @@ use Rattle.std.specs.declared.cmp.Ordering.TheVariants.{Less, Equal, Greater}
 use Rattle.std.specs.declared.option.Option.{Option}
 use Rattle.std.specs.declared.option.Option.TheVariants.{None, Some}
 use Rattle.opam_names.specs.Orders.{text_order}
-use Rattle.opam_syntax.specs.declared.tree.RelOp.{RelOp}
-use Rattle.opam_syntax.specs.declared.tree.RelOp.TheVariants.{Eq, Ne, Lt, Le, Gt, Ge}
+use Rattle.syntax_trees.specs.declared.tree.RelOp.{RelOp}
+use Rattle.syntax_trees.specs.declared.tree.RelOp.TheVariants.{Eq, Ne, Lt, Le, Gt, Ge}
 use Rattle.opam_filter.specs.declared.truth.Truth.{Truth}
 use Rattle.opam_filter.specs.declared.truth.Truth.TheVariants.{Yes, No, Undefined}
 use Rattle.opam_filter.specs.declared.truth.VarValue.{VarValue}

@@ -8,7 +8,7 @@ use Rattle.std.specs.declared.cmp.Ordering.{Ordering}
 use Rattle.std.specs.Option.{option_cmp}
 use Rattle.std.specs.declared.option.Option.{Option}
 use Rattle.std.proofs.Common.{◌⊎◌, inl, inr}
-use Rattle.opam_syntax.specs.declared.tree.Var.{Var}
+use Rattle.syntax_trees.specs.declared.tree.Var.{Var}
 use Rattle.opam_filter.specs.declared.truth.VarValue.{VarValue}
 use Rattle.opam_filter.specs.declared.truth.VarValue.TheVariants.{Flag, Text}
 

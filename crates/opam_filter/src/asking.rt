@@ -9,7 +9,7 @@ use crate::Filter;
 use crate::parts::{are_joined, scope_parts};
 use crate::texts::{asked_for, first_hole};
 use opam_names::{Items, NAME_LIMIT, Name, OutOfMemory, ReadFault};
-use opam_syntax::Var;
+use syntax_trees::Var;
 use std::alloc::Global;
 use std::collections::BTreeSet;
 

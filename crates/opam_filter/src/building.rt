@@ -7,7 +7,7 @@ ghost use Rattle.opam_filter.specs.Trees.{read};
 use crate::copies::copy_variable;
 use crate::{Braces, Filter, Formula};
 use opam_names::{Name, OutOfMemory, ReadFault, Text};
-use opam_syntax::{Node, Value};
+use syntax_trees::{Node, Value};
 use sqlite_items::{Boxed, Items};
 use std::alloc::Global;
 

@@ -4,7 +4,7 @@ ghost use Rattle.opam_filter.specs.Scopes.{plain, scoped};
 
 use crate::{Filter, Reduced, Test};
 use opam_names::{OutOfMemory, Text};
-use opam_syntax::{Var, Word};
+use syntax_trees::{Var, Word};
 use sqlite_items::{Boxed, Items};
 use std::alloc::Global;
 

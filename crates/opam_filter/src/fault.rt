@@ -3,7 +3,7 @@ ghost use Rattle.std.specs.Prelude.{◌≡◌};
 ghost use Rattle.opam_filter.specs.declared.fault.FilterFault.TheVariants.{Memory};
 
 use opam_names::OutOfMemory;
-use opam_syntax::Span;
+use syntax_trees::Span;
 use std::alloc::{AllocError, AllocFailed};
 
 /// What is wrong with a value, and where.

@@ -1,6 +1,6 @@
 // Filters, as they are read from a file.
 use opam_names::Text;
-use opam_syntax::{RelOp, Var};
+use syntax_trees::{RelOp, Var};
 use sqlite_items::{Boxed, Items};
 
 /// A filter (opam manual, filters).

@@ -1,7 +1,7 @@
 // Formulas over packages, as they are read from a file, and what is left of them once variables have values.
 use crate::{Filter, Truth};
 use opam_names::{Name, Text};
-use opam_syntax::RelOp;
+use syntax_trees::RelOp;
 use sqlite_items::Items;
 
 /// A formula over packages (opam manual, package formulas).

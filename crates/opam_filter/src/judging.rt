@@ -7,7 +7,7 @@ use crate::FilterFault;
 use crate::earlier::earlier;
 use crate::text_tests::is_text;
 use opam_names::Name;
-use opam_syntax::{Node, Span, Value};
+use syntax_trees::{Node, Span, Value};
 
 fn no_filter(parts: Option<FilterFault>, span: Span) -> Option<FilterFault>
     ensures { result ≡ faults.no_filter parts span }

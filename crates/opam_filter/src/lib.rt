@@ -40,7 +40,7 @@ pub use formula_laws::{
 };
 pub use judging::{filter_fault, formula_fault};
 pub use meeting::{holds, meets, names};
-pub use opam_syntax::{RelOp, Var};
+pub use syntax_trees::{RelOp, Var};
 pub use reading::{read_filter, read_formula};
 pub use reducing::reduce;
 pub use rising::rises;

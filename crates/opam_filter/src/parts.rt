@@ -1,7 +1,7 @@
 // The parts of a scope.
 ghost use Rattle.std.specs.Prelude.{◌≡◌, ◌&&◌, IfOk, length, map, nat_le};
 ghost use Rattle.std.specs.List.{list_all};
-ghost use Rattle.opam_syntax.specs.Words.{scope_parts};
+ghost use Rattle.syntax_trees.specs.Words.{scope_parts};
 ghost use Rattle.opam_filter.specs.Scopes.{is_package_part};
 
 use opam_names::{Name, OutOfMemory};

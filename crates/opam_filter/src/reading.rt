@@ -6,7 +6,7 @@ ghost use Rattle.opam_filter.specs.Trees.{read};
 use crate::building::{build_filter, build_formula};
 use crate::judging::{filter_fault, formula_fault};
 use crate::{Filter, FilterFault, Formula};
-use opam_syntax::Node;
+use syntax_trees::Node;
 use std::alloc::Global;
 
 /// The filter that a node is, or the first of its faults (opam manual, filters).

@@ -9,7 +9,7 @@ use crate::parts::{are_joined, scope_parts};
 use crate::truths::{both, known_truth, value_of};
 use crate::{Truth, VarValue, Vars};
 use opam_names::{OutOfMemory, Text};
-use opam_syntax::Var;
+use syntax_trees::Var;
 use std::alloc::Global;
 
 /// What a variable is.

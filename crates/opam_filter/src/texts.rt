@@ -4,7 +4,7 @@ ghost use Rattle.opam_filter.specs.Texts.{asked_for, closed, opened, parts_of, v
 
 use crate::copies::{plain, scoped};
 use opam_names::OutOfMemory;
-use opam_syntax::Var;
+use syntax_trees::Var;
 use std::alloc::Global;
 
 /// The first interpolation of a text, what stands before it and what follows it.

@@ -6,7 +6,7 @@ ghost use Rattle.std.specs.Prelude.{◌≡◌, IfOk, OnErr, OnOk};
 use crate::VarValue;
 use crate::copies::copy_variable;
 use opam_names::OutOfMemory;
-use opam_syntax::Var;
+use syntax_trees::Var;
 use std::alloc::Global;
 use std::collections::BTreeMap;
 use std::marker::Model;

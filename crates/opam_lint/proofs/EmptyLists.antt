@@ -1,13 +1,13 @@
 -- The empty lists in a value are its own and those of its parts.
 use Rattle.std.proofs.Common.{◌≡◌, List, [], ◌∷◌, ◌++◌, map, refl, sym, ap, ◌∙◌}
 use Rattle.std.specs.List.{flat_map}
-use Rattle.opam_syntax.specs.declared.tree.Node.{Node}
-use Rattle.opam_syntax.specs.declared.tree.Span.{Span}
-use Rattle.opam_syntax.specs.declared.tree.Value.{Value}
-use Rattle.opam_syntax.specs.declared.tree.Value.TheOpen.{Value-F}
-use Rattle.opam_syntax.specs.declared.tree.Value.TheFolds.{fold-Value, map-Value}
-use Rattle.opam_syntax.specs.declared.tree.Value.TheViews.{roll-out-Value}
-use Rattle.opam_syntax.proofs.Folds.{fold_node, node_at}
+use Rattle.syntax_trees.specs.declared.tree.Node.{Node}
+use Rattle.syntax_trees.specs.declared.tree.Span.{Span}
+use Rattle.syntax_trees.specs.declared.tree.Value.{Value}
+use Rattle.syntax_trees.specs.declared.tree.Value.TheOpen.{Value-F}
+use Rattle.syntax_trees.specs.declared.tree.Value.TheFolds.{fold-Value, map-Value}
+use Rattle.syntax_trees.specs.declared.tree.Value.TheViews.{roll-out-Value}
+use Rattle.syntax_trees.proofs.Folds.{fold_node, node_at}
 use Rattle.opam_package.specs.Views.{outside}
 use Rattle.opam_lint.specs.declared.finding.Finding.{Finding}
 use Rattle.opam_lint.specs.EmptyCommands.{empties, empty_commands, layer_empties, node_empties, nodes_in, own_empty}

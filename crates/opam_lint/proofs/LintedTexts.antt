@@ -5,10 +5,10 @@ use Rattle.std.specs.declared.result.Result.{Result}
 use Rattle.std.specs.declared.result.Result.TheVariants.{Ok, Err}
 use Rattle.std.proofs.lemmas.Result.{IfOk-weaker}
 use Rattle.opam_syntax.specs.Reading.{IsPlaced, IsRefused}
-use Rattle.opam_syntax.specs.Trees.{IsTextOf, items_of}
-use Rattle.opam_syntax.specs.declared.fault.SyntaxFault.{SyntaxFault}
-use Rattle.opam_syntax.specs.declared.fault.SyntaxFault.TheVariants.{Memory}
-use Rattle.opam_syntax.specs.declared.file.File.{File}
+use Rattle.syntax_trees.specs.Trees.{IsTextOf, items_of}
+use Rattle.syntax_trees.specs.declared.fault.SyntaxFault.{SyntaxFault}
+use Rattle.syntax_trees.specs.declared.fault.SyntaxFault.TheVariants.{Memory}
+use Rattle.syntax_trees.specs.declared.file.File.{File}
 use Rattle.opam_lint.specs.declared.finding.Finding.{Finding}
 use Rattle.opam_lint.specs.Findings.{file_findings}
 use Rattle.opam_lint.specs.Linted.{IsLinted, a_file, no_file, syntax_finding}

@@ -7,9 +7,9 @@ use Rattle.std.specs.declared.option.Option.TheVariants.{None, Some}
 use Rattle.std.proofs.lemmas.List.Folds.{list_any-append}
 use Rattle.std.proofs.lemmas.List.Sorted.{list_any-IsPermutation}
 use Rattle.opam_names.proofs.ByteOrders.{order_permutes}
-use Rattle.opam_syntax.specs.Files.{Contents, FieldContents, SectionContents}
-use Rattle.opam_syntax.specs.declared.file.Key.{Key}
-use Rattle.opam_syntax.specs.declared.tree.Span.{Span}
+use Rattle.syntax_trees.specs.Files.{Contents, FieldContents, SectionContents}
+use Rattle.syntax_trees.specs.declared.file.Key.{Key}
+use Rattle.syntax_trees.specs.declared.tree.Span.{Span}
 use Rattle.opam_names.specs.declared.packages.Pkg.{Pkg}
 use Rattle.opam_package.specs.FieldFaults.{file_faults, item_faults, section_faults}
 use Rattle.opam_package.specs.Fields.{FileItems, field_of, listed}

@@ -1,10 +1,10 @@
 -- Lists without values among commands (opam manual, file format: opam, build). That they are told is this project's own.
 use Rattle.std.specs.Prelude.{List, [], ◌∷◌, ◌++◌}
 use Rattle.std.specs.List.{flat_map}
-use Rattle.opam_syntax.specs.declared.tree.Node.{Node}
-use Rattle.opam_syntax.specs.declared.tree.Span.{Span}
-use Rattle.opam_syntax.specs.declared.tree.Value.TheFolds.{fold-Node}
-use Rattle.opam_syntax.specs.declared.tree.Value.TheOpen.{Value-F, Node-F}
+use Rattle.syntax_trees.specs.declared.tree.Node.{Node}
+use Rattle.syntax_trees.specs.declared.tree.Span.{Span}
+use Rattle.syntax_trees.specs.declared.tree.Value.TheFolds.{fold-Node}
+use Rattle.syntax_trees.specs.declared.tree.Value.TheOpen.{Value-F, Node-F}
 use Rattle.opam_package.specs.Views.{outside}
 use Rattle.opam_lint.specs.declared.finding.Finding.{Finding}
 use Rattle.opam_lint.specs.declared.finding.Problem.TheVariants.{EmptyCommand}

@@ -1,8 +1,8 @@
 -- What is said of faults and findings, a line for each finding. This project's own.
 use Rattle.std.specs.Prelude.{ℕ, List, [], ◌∷◌, ◌++◌, Bool, codes, decimal, nat_lt}
 use Rattle.std.specs.List.{flat_map}
-use Rattle.opam_syntax.specs.declared.fault.SyntaxFault.{SyntaxFault}
-use Rattle.opam_syntax.specs.declared.fault.SyntaxFault.TheVariants as syntax
+use Rattle.syntax_trees.specs.declared.fault.SyntaxFault.{SyntaxFault}
+use Rattle.syntax_trees.specs.declared.fault.SyntaxFault.TheVariants as syntax
 use Rattle.opam_filter.specs.declared.fault.FilterFault.{FilterFault}
 use Rattle.opam_filter.specs.declared.fault.FilterFault.TheVariants as filters
 use Rattle.opam_package.specs.declared.fault.PackageFault.{PackageFault}

@@ -6,9 +6,9 @@ use Rattle.std.specs.declared.option.Option.TheVariants.{None, Some}
 use Rattle.opam_names.specs.ByteOrders.{in_order_by}
 use Rattle.opam_names.specs.Names.{is_name, is_version}
 use Rattle.opam_names.specs.declared.packages.Pkg.{Pkg}
-use Rattle.opam_syntax.specs.Files.{Contents, FieldContents, SectionContents}
-use Rattle.opam_syntax.specs.declared.tree.Node.{Node}
-use Rattle.opam_syntax.specs.declared.tree.Span.{Span}
+use Rattle.syntax_trees.specs.Files.{Contents, FieldContents, SectionContents}
+use Rattle.syntax_trees.specs.declared.tree.Node.{Node}
+use Rattle.syntax_trees.specs.declared.tree.Span.{Span}
 use Rattle.opam_package.specs.FieldFaults.{file_faults, section_faults}
 use Rattle.opam_package.specs.Fields.{FileItems, field_of, listed}
 use Rattle.opam_package.specs.Forms.{text_of}

@@ -1,7 +1,7 @@
 -- The fields of an opam file that are known (opam manual, file format: opam).
 use Rattle.std.specs.Prelude.{ℕ, List, [], ◌∷◌, Bool, codes, bytes_eq, ◌||◌}
 use Rattle.std.specs.List.{list_any}
-use Rattle.opam_syntax.specs.Signs.{begins_with}
+use Rattle.syntax_trees.specs.Signs.{begins_with}
 
 -- fields that are read of a package
 abbrev pub read_names : List (List ℕ)

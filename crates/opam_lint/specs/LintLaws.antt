@@ -2,9 +2,9 @@
 use Rattle.std.specs.Prelude.{◌≡◌, ◌↔◌, ℕ, List, [], false, codes, is_none}
 use Rattle.std.specs.List.{list_any}
 use Rattle.opam_names.specs.ByteOrderLaws.{OrderIsStable}
-use Rattle.opam_syntax.specs.Trees.{IsTextOf, items_of}
-use Rattle.opam_syntax.specs.declared.file.File.{File}
-use Rattle.opam_syntax.specs.declared.tree.Span.{Span}
+use Rattle.syntax_trees.specs.Trees.{IsTextOf, items_of}
+use Rattle.syntax_trees.specs.declared.file.File.{File}
+use Rattle.syntax_trees.specs.declared.tree.Span.{Span}
 use Rattle.opam_package.specs.FieldFaults.{file_faults}
 use Rattle.opam_package.specs.Fields.{FileItems, field_of}
 use Rattle.opam_package.specs.Packages.{refused_names}

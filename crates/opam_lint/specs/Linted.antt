@@ -1,10 +1,10 @@
 -- What is found in the bytes of an opam file: why they are none, or else what is found in the file whose text they are.
 use Rattle.std.specs.Prelude.{◌≢◌, ℕ, List, [], ◌∷◌}
 use Rattle.opam_syntax.specs.Reading.{IsPlaced, IsRefused}
-use Rattle.opam_syntax.specs.Trees.{IsTextOf, items_of}
-use Rattle.opam_syntax.specs.declared.fault.SyntaxFault.{SyntaxFault}
-use Rattle.opam_syntax.specs.declared.fault.SyntaxFault.TheVariants.{Ended, Stray, Deep, Doubled, Memory}
-use Rattle.opam_syntax.specs.declared.file.File.{File}
+use Rattle.syntax_trees.specs.Trees.{IsTextOf, items_of}
+use Rattle.syntax_trees.specs.declared.fault.SyntaxFault.{SyntaxFault}
+use Rattle.syntax_trees.specs.declared.fault.SyntaxFault.TheVariants.{Ended, Stray, Deep, Doubled, Memory}
+use Rattle.syntax_trees.specs.declared.file.File.{File}
 use Rattle.opam_package.specs.declared.fault.PackageFault.TheVariants.{Syntax}
 use Rattle.opam_lint.specs.declared.finding.Finding.{Finding}
 use Rattle.opam_lint.specs.declared.finding.Problem.TheVariants.{Fault}

@@ -6,7 +6,7 @@ ghost use Rattle.opam_lint.specs.EmptyCommands as commands;
 
 use crate::{Finding, Problem};
 use opam_names::OutOfMemory;
-use opam_syntax::{Node, Value};
+use syntax_trees::{Node, Value};
 
 // A list without values.
 fn add_own(node: &Node, findings: &mut Vec<Finding>) -> Result<(), OutOfMemory>

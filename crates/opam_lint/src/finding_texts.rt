@@ -7,7 +7,7 @@ use crate::{Finding, Problem};
 use opam_filter::FilterFault;
 use opam_names::OutOfMemory;
 use opam_package::PackageFault;
-use opam_syntax::SyntaxFault;
+use syntax_trees::SyntaxFault;
 use std::alloc::Global;
 
 fn syntax_text(fault: SyntaxFault) -> &'static str

@@ -2,7 +2,7 @@
 ghost use Rattle.std.specs.List.{flat_map};
 ghost use Rattle.std.specs.Prelude.{[], ◌≡◌, ◌∷◌, ◌++◌, IfOk, OnOk, codes, drop, if◌then◌else◌};
 ghost use Rattle.opam_names.specs.ByteOrders.{in_order_by};
-ghost use Rattle.opam_syntax.specs.Trees.{contents_of, items_of};
+ghost use Rattle.syntax_trees.specs.Trees.{contents_of, items_of};
 ghost use Rattle.opam_package.specs.FieldFaults.{faults_of_file};
 ghost use Rattle.opam_package.specs.Fields as fields;
 ghost use Rattle.opam_package.specs.Fields.{listed};
@@ -16,7 +16,7 @@ use crate::naming::told_package;
 use crate::{Finding, Problem};
 use opam_names::OutOfMemory;
 use opam_package::{fault_start, field_of, file_fault, is_refused, section_fault};
-use opam_syntax::{File, Item, Span};
+use syntax_trees::{File, Item, Span};
 use std::alloc::Global;
 
 // Adds a finding where there is something to find.

@@ -2,7 +2,7 @@
 ghost use Rattle.opam_lint.specs.LintLaws.{ErrorsAreExact, FindingsAreDetermined, FindingsAreOrdered};
 
 use opam_package::the_first_is_told;
-use opam_syntax::one_tree_for_bytes;
+use syntax_trees::one_tree_for_bytes;
 
 /// What is put into the order of findings has the same elements, never falls by place and code, and no other list is so.
 pub fn findings_are_ordered()

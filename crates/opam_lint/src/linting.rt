@@ -1,6 +1,6 @@
 // What is found in the text of an opam file.
 ghost use Rattle.std.specs.Prelude.{[], ◌≡◌, ◌≢◌, ◌≤◌, ◌∷◌, IfOk, OnOk, length};
-ghost use Rattle.opam_syntax.specs.declared.fault.SyntaxFault.TheVariants.{Memory};
+ghost use Rattle.syntax_trees.specs.declared.fault.SyntaxFault.TheVariants.{Memory};
 ghost use Rattle.opam_lint.specs.Linted as linted;
 ghost use Rattle.opam_lint.specs.Linted.{IsLinted};
 
@@ -8,7 +8,8 @@ use crate::findings::lint_file;
 use crate::{Finding, Problem};
 use opam_names::OutOfMemory;
 use opam_package::{OPAM_LIMIT, PackageFault};
-use opam_syntax::{SyntaxFault, read_file};
+use opam_syntax::read_file;
+use syntax_trees::SyntaxFault;
 use std::alloc::Global;
 
 fn syntax_code(fault: SyntaxFault) -> u8

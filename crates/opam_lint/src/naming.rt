@@ -2,13 +2,13 @@
 ghost use Rattle.std.specs.Option.{option_copied};
 ghost use Rattle.std.specs.Prelude.{◌≡◌, IfOk, codes};
 ghost use Rattle.opam_names.specs.Names.{IsName, IsVersion, is_name, is_version};
-ghost use Rattle.opam_syntax.specs.Trees.{items_of};
+ghost use Rattle.syntax_trees.specs.Trees.{items_of};
 ghost use Rattle.opam_package.specs.Forms as forms;
 ghost use Rattle.opam_lint.specs.Findings.{text_or, told_package};
 
 use opam_names::{Name, OutOfMemory, Pkg, ReadFault, Version};
 use opam_package::field_of;
-use opam_syntax::{File, Node, Value};
+use syntax_trees::{File, Node, Value};
 use std::alloc::Global;
 
 // The bytes of a text; none of another value.

@@ -4,8 +4,8 @@ use Rattle.std.specs.declared.option.Option.{Option}
 use Rattle.std.specs.declared.option.Option.TheVariants.{Some}
 use Rattle.std.proofs.lemmas.Slice.Eq.{bytes_eq-Decides}
 use Rattle.opam_names.specs.declared.packages.Pkg.{Pkg}
-use Rattle.opam_syntax.specs.Files.{Contents, FieldContents, SectionContents}
-use Rattle.opam_syntax.specs.declared.tree.Node.{Node}
+use Rattle.syntax_trees.specs.Files.{Contents, FieldContents, SectionContents}
+use Rattle.syntax_trees.specs.declared.tree.Node.{Node}
 use Rattle.opam_package.specs.declared.fault.PackageFault.{PackageFault}
 use Rattle.opam_package.specs.FieldFaults.{field_faults, file_faults, item_faults}
 use Rattle.opam_package.specs.Fields.{FileItems, field_of, listed, or_later}

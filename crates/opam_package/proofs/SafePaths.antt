@@ -1,8 +1,8 @@
 -- A text that is not unsafe stands for a path.
 use Rattle.std.proofs.Common.{◌≡◌, ℕ, Bool, true, false, not, ◌||◌, nat_lt, List, [], ◌∷◌, length, codes, if◌then◌else◌, IsTrue, refl}
 use Rattle.opam_names.specs.Paths.{is_relative_path}
-use Rattle.opam_syntax.specs.Signs.{begins_with}
-use Rattle.opam_syntax.specs.declared.tree.Span.{Span}
+use Rattle.syntax_trees.specs.Signs.{begins_with}
+use Rattle.syntax_trees.specs.declared.tree.Span.{Span}
 use Rattle.opam_package.specs.declared.fault.PackageFault.TheVariants.{Unsafe}
 use Rattle.opam_package.specs.declared.limits.TheConstants.{SUBST_LIMIT}
 use Rattle.opam_package.specs.Relatives.{is_unsafe, path_faults, shortened}

@@ -4,9 +4,9 @@ use Rattle.std.specs.List.{flat_map}
 use Rattle.std.specs.Option.{is_some}
 use Rattle.std.specs.declared.option.Option.{Option}
 use Rattle.std.specs.declared.option.Option.TheVariants.{None, Some}
-use Rattle.opam_syntax.specs.declared.tree.Node.{Node}
-use Rattle.opam_syntax.specs.declared.tree.Span.{Span}
-use Rattle.opam_syntax.specs.declared.tree.Var.{Var}
+use Rattle.syntax_trees.specs.declared.tree.Node.{Node}
+use Rattle.syntax_trees.specs.declared.tree.Span.{Span}
+use Rattle.syntax_trees.specs.declared.tree.Var.{Var}
 use Rattle.opam_filter.specs.declared.filter.Filter.{Filter}
 use Rattle.opam_filter.specs.Trees.{read}
 use Rattle.opam_package.specs.declared.fault.PackageFault.{PackageFault}

@@ -2,9 +2,9 @@
 use Rattle.std.specs.Prelude.{ℕ, List, [], ◌∷◌, bytes_eq, if◌then◌else◌}
 use Rattle.std.specs.declared.option.Option.{Option}
 use Rattle.std.specs.declared.option.Option.TheVariants.{None, Some}
-use Rattle.opam_syntax.specs.declared.file.Key.{Key}
-use Rattle.opam_syntax.specs.declared.tree.Node.{Node}
-use Rattle.opam_syntax.specs.Files.{Contents, FieldContents, SectionContents}
+use Rattle.syntax_trees.specs.declared.file.Key.{Key}
+use Rattle.syntax_trees.specs.declared.tree.Node.{Node}
+use Rattle.syntax_trees.specs.Files.{Contents, FieldContents, SectionContents}
 
 -- items in the order of a file
 abbrev pub FileItems : Type 0

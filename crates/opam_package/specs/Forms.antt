@@ -4,8 +4,8 @@ use Rattle.std.specs.List.{flat_map}
 use Rattle.std.specs.Option.{unwrap_or}
 use Rattle.std.specs.declared.option.Option.{Option}
 use Rattle.std.specs.declared.option.Option.TheVariants.{None, Some}
-use Rattle.opam_syntax.specs.declared.tree.Node.{Node}
-use Rattle.opam_syntax.specs.declared.tree.Span.{Span}
+use Rattle.syntax_trees.specs.declared.tree.Node.{Node}
+use Rattle.syntax_trees.specs.declared.tree.Span.{Span}
 use Rattle.opam_filter.specs.Faults.{is_text, judged}
 use Rattle.opam_package.specs.declared.fault.PackageFault.{PackageFault}
 use Rattle.opam_package.specs.declared.fault.PackageFault.TheVariants.{WrongKind, NotText}

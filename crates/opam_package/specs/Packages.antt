@@ -6,11 +6,11 @@ use Rattle.std.specs.Option.{option_and_then, option_map}
 use Rattle.std.specs.declared.option.Option.{Option}
 use Rattle.std.specs.declared.option.Option.TheVariants.{None, Some}
 use Rattle.opam_names.specs.declared.packages.Pkg.{Pkg}
-use Rattle.opam_syntax.specs.Files.{Contents, FieldContents, SectionContents}
-use Rattle.opam_syntax.specs.Signs.{begins_with}
-use Rattle.opam_syntax.specs.Trees.{items_of}
-use Rattle.opam_syntax.specs.declared.file.File.{File}
-use Rattle.opam_syntax.specs.declared.tree.Node.{Node}
+use Rattle.syntax_trees.specs.Files.{Contents, FieldContents, SectionContents}
+use Rattle.syntax_trees.specs.Signs.{begins_with}
+use Rattle.syntax_trees.specs.Trees.{items_of}
+use Rattle.syntax_trees.specs.declared.file.File.{File}
+use Rattle.syntax_trees.specs.declared.tree.Node.{Node}
 use Rattle.opam_filter.specs.Reductions.{reduced}
 use Rattle.opam_filter.specs.Scopes.{plain}
 use Rattle.opam_filter.specs.Sets.{atoms}

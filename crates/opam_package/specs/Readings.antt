@@ -1,9 +1,9 @@
 -- Words of private clauses alone: the variables of the three readings of `depends` in one value, and an item as a map has it.
 use Rattle.std.specs.Prelude.{ℕ, List}
 use Rattle.opam_names.specs.declared.packages.Pkg.{Pkg}
-use Rattle.opam_syntax.specs.Trees.{contents_of}
-use Rattle.opam_syntax.specs.declared.file.Item.{Item}
-use Rattle.opam_syntax.specs.declared.tree.Node.{Node}
+use Rattle.syntax_trees.specs.Trees.{contents_of}
+use Rattle.syntax_trees.specs.declared.file.Item.{Item}
+use Rattle.syntax_trees.specs.declared.tree.Node.{Node}
 use Rattle.opam_package.specs.declared.fault.PackageFault.{PackageFault}
 use Rattle.opam_package.specs.declared.formulas.Readings.{Readings}
 use Rattle.opam_package.specs.declared.package.Need.{Need}

@@ -5,9 +5,9 @@ use Rattle.std.specs.List.{flat_map}
 use Rattle.std.specs.declared.option.Option.{Option}
 use Rattle.std.specs.declared.option.Option.TheVariants.{None, Some}
 use Rattle.opam_names.specs.Paths.{is_relative_path, parts}
-use Rattle.opam_syntax.specs.Signs.{begins_with}
-use Rattle.opam_syntax.specs.declared.tree.Node.{Node}
-use Rattle.opam_syntax.specs.declared.tree.Span.{Span}
+use Rattle.syntax_trees.specs.Signs.{begins_with}
+use Rattle.syntax_trees.specs.declared.tree.Node.{Node}
+use Rattle.syntax_trees.specs.declared.tree.Span.{Span}
 use Rattle.opam_package.specs.declared.fault.PackageFault.{PackageFault}
 use Rattle.opam_package.specs.declared.fault.PackageFault.TheVariants.{WrongKind, NotText, Unsafe}
 use Rattle.opam_package.specs.declared.limits.TheConstants.{SUBST_LIMIT}

@@ -3,14 +3,14 @@ use Rattle.std.specs.Prelude.{ℕ, List, [], ◌∷◌, ◌++◌, Bool, false, m
 use Rattle.std.specs.List.{flat_map}
 use Rattle.std.specs.declared.option.Option.{Option}
 use Rattle.std.specs.declared.option.Option.TheVariants.{None, Some}
-use Rattle.opam_syntax.specs.declared.tree.EnvOp.{EnvOp}
-use Rattle.opam_syntax.specs.declared.tree.EnvOp.TheVariants.{Set}
-use Rattle.opam_syntax.specs.declared.tree.Node.{Node}
-use Rattle.opam_syntax.specs.declared.tree.RelOp.{RelOp}
-use Rattle.opam_syntax.specs.declared.tree.RelOp.TheVariants.{Eq}
-use Rattle.opam_syntax.specs.declared.tree.Span.{Span}
-use Rattle.opam_syntax.specs.declared.tree.Value.TheOpen.{Value-F}
-use Rattle.opam_syntax.specs.declared.tree.Var.{Var}
+use Rattle.syntax_trees.specs.declared.tree.EnvOp.{EnvOp}
+use Rattle.syntax_trees.specs.declared.tree.EnvOp.TheVariants.{Set}
+use Rattle.syntax_trees.specs.declared.tree.Node.{Node}
+use Rattle.syntax_trees.specs.declared.tree.RelOp.{RelOp}
+use Rattle.syntax_trees.specs.declared.tree.RelOp.TheVariants.{Eq}
+use Rattle.syntax_trees.specs.declared.tree.Span.{Span}
+use Rattle.syntax_trees.specs.declared.tree.Value.TheOpen.{Value-F}
+use Rattle.syntax_trees.specs.declared.tree.Var.{Var}
 use Rattle.opam_package.specs.declared.fault.PackageFault.{PackageFault}
 use Rattle.opam_package.specs.declared.fault.PackageFault.TheVariants.{WrongKind, EnvOperator}
 use Rattle.opam_package.specs.declared.package.EnvUpdate.{EnvUpdate}

@@ -3,11 +3,11 @@ use Rattle.std.specs.Prelude.{ℕ, List, [], ◌∷◌, Bool}
 use Rattle.std.specs.Option.{is_some, unwrap_or}
 use Rattle.std.specs.declared.option.Option.{Option}
 use Rattle.std.specs.declared.option.Option.TheVariants.{None, Some}
-use Rattle.opam_syntax.specs.declared.tree.Node.{Node}
-use Rattle.opam_syntax.specs.declared.tree.Value.{Value}
-use Rattle.opam_syntax.specs.declared.tree.Value.TheOpen.{Value-F}
-use Rattle.opam_syntax.specs.declared.tree.Value.TheViews.{out-Value}
-use Rattle.opam_syntax.specs.declared.tree.Var.{Var}
+use Rattle.syntax_trees.specs.declared.tree.Node.{Node}
+use Rattle.syntax_trees.specs.declared.tree.Value.{Value}
+use Rattle.syntax_trees.specs.declared.tree.Value.TheOpen.{Value-F}
+use Rattle.syntax_trees.specs.declared.tree.Value.TheViews.{out-Value}
+use Rattle.syntax_trees.specs.declared.tree.Var.{Var}
 
 -- a value with its parts
 abbrev pub Outside : Type 0

@@ -10,7 +10,7 @@ use crate::forms::{bytes_fault, inner_filter_fault};
 use crate::limits::COMMAND_LIMIT;
 use crate::sooner::sooner;
 use crate::views::{bare, braces_in, is_list, list_in, text_in, variable_in};
-use opam_syntax::{Node, Span};
+use syntax_trees::{Node, Span};
 use std::slice;
 
 // Braces hold one filter; a value need not have them.

@@ -13,7 +13,7 @@ use crate::views::{bare, braces_in, list_in, variable_in};
 use crate::{Arg, Command, Word};
 use opam_filter::{Filter, FilterFault, read_filter};
 use opam_names::{Items, OutOfMemory};
-use opam_syntax::{Node, Span};
+use syntax_trees::{Node, Span};
 use std::alloc::Global;
 
 /// The filter that a node is.

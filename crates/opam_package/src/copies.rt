@@ -4,7 +4,7 @@ ghost use Rattle.std.specs.Prelude.{◌≡◌, IfOk};
 use crate::{Arg, Command, EnvUpdate, Member, Need, Package, Word};
 use opam_filter::{Filter, Reduced};
 use opam_names::{Items, OutOfMemory, RelPath, Text};
-use opam_syntax::{Var, Word as Name};
+use syntax_trees::{Var, Word as Name};
 use std::alloc::Global;
 
 fn copy_name(alloc: Global, name: &Name) -> Result<Name, OutOfMemory>

@@ -4,7 +4,7 @@ ghost use Rattle.opam_package.specs.declared.fault.PackageFault.TheVariants.{Mem
 
 use opam_filter::FilterFault;
 use opam_names::OutOfMemory;
-use opam_syntax::{Span, SyntaxFault};
+use syntax_trees::{Span, SyntaxFault};
 use std::alloc::{AllocError, AllocFailed};
 
 /// What is wrong with an opam file, and where.

@@ -17,7 +17,7 @@ use crate::update_faults::updates_fault;
 use crate::views::text_in;
 use indexmap::IndexMap;
 use opam_names::{OutOfMemory, Pkg};
-use opam_syntax::{File, Item, Node, Word};
+use syntax_trees::{File, Item, Node, Word};
 use std::alloc::Global;
 
 // The bytes of a text; none of another value.

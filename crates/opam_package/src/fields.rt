@@ -1,11 +1,11 @@
 // How the items of a file are found.
 ghost use Rattle.std.specs.Option.{option_copied};
 ghost use Rattle.std.specs.Prelude.{◌≡◌};
-ghost use Rattle.opam_syntax.specs.Trees.{items_of};
+ghost use Rattle.syntax_trees.specs.Trees.{items_of};
 ghost use Rattle.opam_package.specs.Fields as fields;
 
 use indexmap::IndexMap;
-use opam_syntax::{File, Item, Node, Word};
+use syntax_trees::{File, Item, Node, Word};
 
 /// The value of the field of this name at the top of a file.
 pub fn field_of<'a>(file: &'a File, name: &str) -> Option<&'a Node>

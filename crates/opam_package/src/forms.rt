@@ -10,7 +10,7 @@ use crate::PackageFault;
 use crate::sooner::{inner_fault, sooner};
 use crate::views::{text_in, values_of};
 use opam_filter::{filter_fault, formula_fault};
-use opam_syntax::{Node, Span};
+use syntax_trees::{Node, Span};
 
 fn has_no_zero(bytes: &[u8]) -> bool
     ensures { result ≡ list_all is_not_zero bytes.now }

@@ -18,7 +18,7 @@ use opam_filter::{
     FilterFault, Formula, Reduced, Truth, VarValue, Vars, atoms, eval, read_formula, reduce,
 };
 use opam_names::{Items, OutOfMemory, Pkg, Text};
-use opam_syntax::{Node, Var, Word};
+use syntax_trees::{Node, Var, Word};
 use std::alloc::Global;
 
 fn set_value(alloc: Global, vars: &mut Vars, name: &str, value: VarValue) -> Result<(), OutOfMemory>

@@ -1,7 +1,7 @@
 // What an opam file says of a package.
 use opam_filter::{Filter, Reduced};
 use opam_names::{Items, Name, Pkg, RelPath, Text};
-use opam_syntax::{EnvOp, Var};
+use syntax_trees::{EnvOp, Var};
 
 /// A package as its opam file has it (opam manual, file format: opam). Formulas are reduced, and `available` is answered,
 /// by the variables of the whole run and the package's own `name` and `version`.

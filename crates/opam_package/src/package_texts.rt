@@ -8,7 +8,8 @@ use crate::reading::package_of;
 use crate::{Package, PackageFault};
 use opam_filter::Vars;
 use opam_names::Pkg;
-use opam_syntax::{SyntaxFault, read_file};
+use opam_syntax::read_file;
+use syntax_trees::SyntaxFault;
 use std::alloc::Global;
 
 /// The package that the text of an opam file is of; a fault of the syntax comes first, then the first fault of the file

@@ -7,7 +7,7 @@ use crate::forms::text_of_bytes;
 use crate::relatives::shortened;
 use crate::views::{text_in, values_of};
 use opam_names::{Items, OutOfMemory, ReadFault, RelPath, tests_say_the_same};
-use opam_syntax::{Node, Span};
+use syntax_trees::{Node, Span};
 use std::alloc::Global;
 
 fn build_path(alloc: Global, text: &str, span: Span) -> Result<RelPath, OutOfMemory>

@@ -1,6 +1,6 @@
 // The package that a file is of, field by field.
 ghost use Rattle.std.specs.Prelude.{[], ◌≡◌, IfErr, IfOk, OnOk, codes};
-ghost use Rattle.opam_syntax.specs.Trees.{items_of};
+ghost use Rattle.syntax_trees.specs.Trees.{items_of};
 ghost use Rattle.opam_package.specs.Commands.{commands_faults};
 ghost use Rattle.opam_package.specs.FieldFaults.{faults_of_file};
 ghost use Rattle.opam_package.specs.Fields.{field_of, listed};
@@ -22,7 +22,7 @@ use crate::updates::build_updates;
 use crate::{Command, EnvUpdate, Need, Package, PackageFault};
 use opam_filter::{Reduced, Vars};
 use opam_names::{Items, OutOfMemory, Pkg, RelPath, Text};
-use opam_syntax::File;
+use syntax_trees::File;
 use std::alloc::Global;
 
 fn depends_of(alloc: Global, file: &File, vars: &Vars) -> Result<Items<Need>, OutOfMemory>

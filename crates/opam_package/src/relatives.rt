@@ -12,7 +12,7 @@ use crate::limits::SUBST_LIMIT;
 use crate::sooner::sooner;
 use crate::views::{text_in, values_of};
 use opam_names::{OutOfMemory, RelPath};
-use opam_syntax::{Node, Span};
+use syntax_trees::{Node, Span};
 use std::alloc::Global;
 
 // What stands between the slashes.

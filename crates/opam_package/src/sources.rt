@@ -2,7 +2,7 @@
 ghost use Rattle.std.specs.Option.{option_copied};
 ghost use Rattle.std.specs.List.{list_any};
 ghost use Rattle.std.specs.Prelude.{◌≡◌, IfOk, OnOk, bytes_eq};
-ghost use Rattle.opam_syntax.specs.Trees.{contents_of, items_of};
+ghost use Rattle.syntax_trees.specs.Trees.{contents_of, items_of};
 ghost use Rattle.opam_package.specs.Packages as packages;
 ghost use Rattle.opam_package.specs.Views.{list_in};
 
@@ -11,7 +11,7 @@ use crate::forms::text_of_bytes;
 use crate::views::{list_in, text_in};
 use indexmap::IndexMap;
 use opam_names::{Items, OutOfMemory, Text};
-use opam_syntax::{File, Item, Node, Word};
+use syntax_trees::{File, Item, Node, Word};
 use std::alloc::Global;
 
 // A path from the root, as it is or behind `file://`.

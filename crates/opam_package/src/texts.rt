@@ -6,7 +6,7 @@ ghost use Rattle.opam_package.specs.Forms.{text_faults, text_of, texts_faults, t
 use crate::forms::text_of_bytes;
 use crate::views::{text_in, values_of};
 use opam_names::{Items, OutOfMemory, Text};
-use opam_syntax::Node;
+use syntax_trees::Node;
 use std::alloc::Global;
 
 /// The text that a node is.

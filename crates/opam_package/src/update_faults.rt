@@ -9,7 +9,7 @@ use crate::forms::bytes_fault;
 use crate::sooner::sooner;
 use crate::views::{is_list, list_in, text_in, variable_in};
 use opam_filter::RelOp;
-use opam_syntax::{Node, Span, Value};
+use syntax_trees::{Node, Span, Value};
 
 // On the left stands a variable without a scope.
 fn target_fault(node: &Node) -> Option<PackageFault>

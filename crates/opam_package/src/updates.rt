@@ -10,7 +10,7 @@ use crate::texts::build_text;
 use crate::update_faults::begins_with_list;
 use crate::views::{list_in, text_in, variable_in};
 use opam_names::{Items, OutOfMemory, Text};
-use opam_syntax::{EnvOp, Node, Span, Value};
+use syntax_trees::{EnvOp, Node, Span, Value};
 use std::alloc::Global;
 
 // The name on the left side.

@@ -3,24 +3,24 @@ use Rattle.std.proofs.Common.{◌≡◌, ◌≢◌, ℕ, List, [], length, subst
 use Rattle.std.specs.Prelude.{Result, Ok, Err, IfErr, IfOk, OnOk}
 use Rattle.std.specs.declared.option.Option.{Option}
 use Rattle.std.specs.declared.option.Option.TheVariants.{None}
-use Rattle.opam_syntax.specs.declared.entry.ReadEntry.{ReadEntry}
-use Rattle.opam_syntax.specs.declared.fault.ParseFault.{ParseFault}
-use Rattle.opam_syntax.specs.declared.fault.ParseFault.TheVariants as parse
-use Rattle.opam_syntax.specs.declared.fault.SyntaxFault.{SyntaxFault}
-use Rattle.opam_syntax.specs.declared.fault.SyntaxFault.TheVariants.{Ended, Stray, Deep, Doubled, Memory}
-use Rattle.opam_syntax.specs.declared.file.File.{File}
-use Rattle.opam_syntax.specs.Assembly.{TellsDoubled, entries_twice}
-use Rattle.opam_syntax.specs.Files.{AreEntries}
-use Rattle.opam_syntax.specs.Nesting.{AreShallow}
-use Rattle.opam_syntax.specs.ParsingEntries.{HasNoShallow}
-use Rattle.opam_syntax.specs.Read.{read_entries}
+use Rattle.syntax_trees.specs.declared.entry.ReadEntry.{ReadEntry}
+use Rattle.syntax_trees.specs.declared.fault.ParseFault.{ParseFault}
+use Rattle.syntax_trees.specs.declared.fault.ParseFault.TheVariants as parse
+use Rattle.syntax_trees.specs.declared.fault.SyntaxFault.{SyntaxFault}
+use Rattle.syntax_trees.specs.declared.fault.SyntaxFault.TheVariants.{Ended, Stray, Deep, Doubled, Memory}
+use Rattle.syntax_trees.specs.declared.file.File.{File}
+use Rattle.syntax_trees.specs.Assembly.{TellsDoubled, entries_twice}
+use Rattle.syntax_trees.specs.Files.{AreEntries}
+use Rattle.syntax_trees.specs.Nesting.{AreShallow}
+use Rattle.syntax_trees.specs.ParsingEntries.{HasNoShallow}
+use Rattle.syntax_trees.specs.Read.{read_entries}
 use Rattle.opam_syntax.specs.Reading.{IsDoubledWhereTold, IsNoFile, IsParseFault, IsPlaced, IsRefused}
-use Rattle.opam_syntax.specs.Tokens.{Placed, AreTokens}
-use Rattle.opam_syntax.specs.Trees.{HasEntries, IsTextOf}
-use Rattle.opam_syntax.proofs.Doubling.{twice_is_doubled}
-use Rattle.opam_syntax.proofs.NowhereDeep.{derived_nowhere_deep}
-use Rattle.opam_syntax.proofs.OneFault.{no_fault}
-use Rattle.opam_syntax.proofs.OneTokens.{same_tokens}
+use Rattle.syntax_trees.specs.Tokens.{Placed, AreTokens}
+use Rattle.syntax_trees.specs.Trees.{HasEntries, IsTextOf}
+use Rattle.syntax_trees.proofs.Doubling.{twice_is_doubled}
+use Rattle.syntax_trees.proofs.NowhereDeep.{derived_nowhere_deep}
+use Rattle.syntax_trees.proofs.OneFault.{no_fault}
+use Rattle.syntax_trees.proofs.OneTokens.{same_tokens}
 
 pub text_of_file : (bytes : List ℕ) (tokens : List Placed) (entries : List ReadEntry) (file : File) → AreTokens (length bytes) bytes tokens
     → AreEntries tokens (read_entries entries) → AreShallow (read_entries entries) → HasEntries file (read_entries entries) → entries_twice [] entries ≡ None

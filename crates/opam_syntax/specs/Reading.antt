@@ -1,12 +1,12 @@
 -- What a reader promises of a text that it refuses.
 use Rattle.std.specs.Prelude.{◌≡◌, ◌≢◌, ℕ, List, length}
-use Rattle.opam_syntax.specs.declared.fault.ParseFault.{ParseFault}
-use Rattle.opam_syntax.specs.declared.fault.ParseFault.TheVariants as parse
-use Rattle.opam_syntax.specs.declared.fault.SyntaxFault.{SyntaxFault}
-use Rattle.opam_syntax.specs.declared.fault.SyntaxFault.TheVariants.{Ended, Stray, Deep, Doubled, Memory}
-use Rattle.opam_syntax.specs.declared.file.File.{File}
-use Rattle.opam_syntax.specs.Faults.{IsDoubledAt, IsFaultOf}
-use Rattle.opam_syntax.specs.Trees.{IsTextOf}
+use Rattle.syntax_trees.specs.declared.fault.ParseFault.{ParseFault}
+use Rattle.syntax_trees.specs.declared.fault.ParseFault.TheVariants as parse
+use Rattle.syntax_trees.specs.declared.fault.SyntaxFault.{SyntaxFault}
+use Rattle.syntax_trees.specs.declared.fault.SyntaxFault.TheVariants.{Ended, Stray, Deep, Doubled, Memory}
+use Rattle.syntax_trees.specs.declared.file.File.{File}
+use Rattle.syntax_trees.specs.Faults.{IsDoubledAt, IsFaultOf}
+use Rattle.syntax_trees.specs.Trees.{IsTextOf}
 
 -- the bytes are the text of no file
 abbrev pub IsNoFile : List ℕ → Type 0

@@ -1,19 +1,15 @@
 // A text is read in three passes: its tokens, its items, and the maps of its file.
 ghost use Rattle.std.specs.Prelude.{◌≡◌, ◌≢◌, ◌≤◌, length, IfErr, IfOk};
-ghost use Rattle.opam_syntax.specs.Read.{placed_tokens};
+ghost use Rattle.syntax_trees.specs.Read.{placed_tokens};
 ghost use Rattle.opam_syntax.specs.Reading.{IsDoubledWhereTold, IsNoFile, IsParseFault, IsPlaced, IsRefused};
-ghost use Rattle.opam_syntax.specs.Tokens.{AreTokens};
-ghost use Rattle.opam_syntax.specs.Trees.{IsTextOf};
+ghost use Rattle.syntax_trees.specs.Tokens.{AreTokens};
+ghost use Rattle.syntax_trees.specs.Trees.{IsTextOf};
 
-use crate::assembly::assemble;
-use crate::fault::ParseFault;
-use crate::lexer::{ScanEnd, scan};
-use crate::limits::FILE_LIMIT;
-use crate::parsing::parse;
-use crate::token::PlacedToken;
-use crate::{File, SyntaxFault};
 use opam_names::OutOfMemory;
 use std::alloc::Global;
+use syntax_trees::{
+    FILE_LIMIT, File, ParseFault, PlacedToken, ScanEnd, SyntaxFault, assemble, parse, scan,
+};
 
 /// The file of which the bytes are the text (opam manual, file format). A fault says that they are the text of none. A doubled
 /// name is told only where nothing is too deep, at its place, and an early end after the last byte; the other places are not promised.

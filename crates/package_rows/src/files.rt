@@ -1,7 +1,7 @@
 // Calls of `opam_syntax`.
 use crate::trees::{read_tree, syntax_word};
 use indexmap::IndexMap;
-use opam_syntax::{File, Item, Key, Label, Node, print_file};
+use syntax_trees::{File, Item, Key, Label, Node, print_file};
 use row_script::fault::Fault;
 use row_script::lexer::Word;
 use row_script::script::{Call, same};

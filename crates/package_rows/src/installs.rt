@@ -1,7 +1,7 @@
 // Calls of `install_sections`. Up to eight files are shown, of more their number.
 use crate::spans::{show_at, show_doubled};
 use install_sections::{InstallFault, Layout, Placement, Section, read_install};
-use opam_syntax::{FILE_LIMIT, SyntaxFault};
+use syntax_trees::{FILE_LIMIT, SyntaxFault};
 use row_script::fault::Fault;
 use row_script::lexer::Word;
 use row_script::script::Call;

@@ -4,7 +4,7 @@ use crate::spans::{show_at, show_doubled};
 use lock_check::{Lock, LockFault, read_lock};
 use opam_filter::Vars;
 use opam_names::Pkg;
-use opam_syntax::{FILE_LIMIT, SyntaxFault};
+use syntax_trees::{FILE_LIMIT, SyntaxFault};
 use row_script::fault::Fault;
 use row_script::lexer::Word;
 use row_script::script::Call;

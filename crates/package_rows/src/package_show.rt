@@ -2,7 +2,7 @@
 use crate::filter_show::{push_filter, push_reduced, push_var};
 use opam_filter::Filter;
 use opam_package::{Arg, Command, EnvUpdate, Need, Word};
-use opam_syntax::EnvOp;
+use syntax_trees::EnvOp;
 use row_script::fault::Fault;
 use row_script::show::push_quoted;
 

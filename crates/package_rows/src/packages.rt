@@ -13,7 +13,7 @@ use opam_package::{
     Command, EnvUpdate, Need, OPAM_LIMIT, Package, PackageFault, edges, forbids, needs, package_of,
     read_package,
 };
-use opam_syntax::{File, Item, Key, SyntaxFault};
+use syntax_trees::{File, Item, Key, SyntaxFault};
 use row_script::fault::Fault;
 use row_script::lexer::Word;
 use row_script::script::Call;

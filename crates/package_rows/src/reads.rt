@@ -2,10 +2,8 @@
 // parts, and with the place where it stands, as `x @3-4`. Of faults only a doubled name is told with its place.
 use crate::spans::show_doubled;
 use indexmap::IndexMap;
-use opam_syntax::{
-    EnvOp, FILE_LIMIT, File, Item, Key, Node, RelOp, Span, SyntaxFault, Value, Var, read_file,
-    text_of,
-};
+use opam_syntax::read_file;
+use syntax_trees::{EnvOp, FILE_LIMIT, File, Item, Key, Node, RelOp, Span, SyntaxFault, Value, Var, text_of};
 use row_script::fault::Fault;
 use row_script::lexer::Word;
 use row_script::script::Call;
@@ -114,7 +112,7 @@ fn push_item(text: &mut String, key: &Key, item: &Item, span: Span) -> Result<()
     }
 }
 
-fn push_fields(text: &mut String, fields: &IndexMap<opam_syntax::Word, Node>) -> Result<(), Fault> {
+fn push_fields(text: &mut String, fields: &IndexMap<syntax_trees::Word, Node>) -> Result<(), Fault> {
     push(text, " {")?;
     for (name, value) in fields {
         push(text, " ")?;

@@ -1,5 +1,5 @@
 // Places in a text as they are shown.
-use opam_syntax::Span;
+use syntax_trees::Span;
 use row_script::fault::Fault;
 use std::alloc::Global;
 

@@ -2,7 +2,7 @@
 // boolean, `a` or `a:b` a word. A sign takes the values before it: `=` and the other relations two, `_=` and its kin one,
 // `!` and `?` one, `&2` and `|2` as many as they say, `[2]` and `(2)` too, and `{2}` two and the value that they stand
 // after. `@3-7` says where the value before it stands. This project's own.
-use opam_syntax::{EnvOp, Node, RelOp, Span, Value, Var};
+use syntax_trees::{EnvOp, Node, RelOp, Span, Value, Var};
 use row_script::fault::Fault;
 use row_script::lexer::Word;
 use sqlite_items::{Boxed, Items};
@@ -231,6 +231,6 @@ pub fn variable(alloc: Global, text: &str) -> Result<Var, Fault> {
 }
 
 /// A word of a file.
-pub fn syntax_word(alloc: Global, text: &str) -> Result<opam_syntax::Word, Fault> {
-    Ok(opam_syntax::Word::from_string(String::from_str(alloc, text)?))
+pub fn syntax_word(alloc: Global, text: &str) -> Result<syntax_trees::Word, Fault> {
+    Ok(syntax_trees::Word::from_string(String::from_str(alloc, text)?))
 }

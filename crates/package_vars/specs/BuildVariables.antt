@@ -4,7 +4,7 @@ use Rattle.std.specs.Prelude.{ℕ, List, [], ◌∷◌, ◌++◌, map, reverse, 
 use Rattle.std.specs.FinMap.{from_entries}
 use Rattle.std.specs.List.{flat_map}
 use Rattle.opam_names.specs.declared.packages.Pkg.{Pkg}
-use Rattle.opam_syntax.specs.declared.tree.Var.{Var}
+use Rattle.syntax_trees.specs.declared.tree.Var.{Var}
 use Rattle.opam_filter.specs.Scopes.{plain, scoped}
 use Rattle.opam_filter.specs.Variables.{Values}
 use Rattle.opam_filter.specs.declared.truth.VarValue.{VarValue}

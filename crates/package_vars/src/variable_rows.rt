@@ -7,7 +7,7 @@ ghost use Rattle.package_vars.specs.Steps.{with_rows};
 
 use opam_filter::{VarValue, Vars};
 use opam_names::{OutOfMemory, Text};
-use opam_syntax::{Var, Word};
+use syntax_trees::{Var, Word};
 use std::alloc::Global;
 
 fn word_of(alloc: Global, text: &str) -> Result<Word, OutOfMemory>

@@ -2,14 +2,14 @@
 use Rattle.std.proofs.Common.{◌≡◌, ℕ, ◌+◌, true, false, List, [], ◌∷◌, ◌++◌, length, take, map, refl, ap, sym, subst, ◌∙◌, arith}
 use Rattle.std.proofs.lemmas.List.{append_assoc, append-nil, length-append}
 use Rattle.std.specs.declared.option.Option.TheVariants.{None, Some}
-use Rattle.opam_syntax.specs.declared.token.Token.{Token}
-use Rattle.opam_syntax.specs.Faults.{IsDerived, BeginsFile}
-use Rattle.opam_syntax.specs.Following.{TokenControl as Control, at_entry, followed_after as followed_from, tokens_followed as followed, token_of}
-use Rattle.opam_syntax.specs.Lexes.{Lexes}
-use Rattle.opam_syntax.specs.Tokens.{Placed}
-use Rattle.opam_syntax.proofs.Ended.{begins_file}
-use Rattle.opam_syntax.proofs.Followed.{file_followed}
-use Rattle.opam_syntax.proofs.Settled.{LexesToo}
+use Rattle.syntax_trees.specs.declared.token.Token.{Token}
+use Rattle.syntax_trees.specs.Faults.{IsDerived, BeginsFile}
+use Rattle.syntax_trees.specs.Following.{TokenControl as Control, at_entry, followed_after as followed_from, tokens_followed as followed, token_of}
+use Rattle.syntax_trees.specs.Lexes.{Lexes}
+use Rattle.syntax_trees.specs.Tokens.{Placed}
+use Rattle.syntax_trees.proofs.Ended.{begins_file}
+use Rattle.syntax_trees.proofs.Followed.{file_followed}
+use Rattle.syntax_trees.proofs.Settled.{LexesToo}
 use Rattle.syntax_faults.specs.Endings.{GoesOn, begins_apart}
 use Rattle.syntax_faults.specs.Laws.{BeginningsAreTold, TailsAreTold, StrayTokensAreTold, StrayIsTold, EndedInsideIsTold}
 use Rattle.syntax_faults.proofs.TokenKinds.{AreKinds, kinds_of, at_places}

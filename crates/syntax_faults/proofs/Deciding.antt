@@ -3,13 +3,13 @@ use Rattle.std.proofs.Common.{◌≡◌, ℕ, zero, suc, ◌<◌, ◌≤◌, Boo
 use Rattle.std.specs.Prelude.{codes}
 use Rattle.std.specs.declared.option.Option.{Option}
 use Rattle.std.specs.declared.option.Option.TheVariants.{None, Some}
-use Rattle.opam_syntax.specs.declared.token.Token.TheVariants.{Text}
-use Rattle.opam_syntax.specs.Faults.{BeginsFile}
-use Rattle.opam_syntax.specs.Following.{TokenControl as Control, at_entry, tokens_followed as followed, token_of}
-use Rattle.opam_syntax.specs.Texts.{Piece, Closes, Gives, NoPiece, piece, IsInside, closes, gives}
-use Rattle.opam_syntax.specs.Tokens.{First, End, Gap, Single, Quote, NoToken, first, Placed, placed, span_between, AreTokens, ends, gap, single, text}
-use Rattle.opam_syntax.proofs.OneTokens.{same_tokens, no_tokens, after_gap, after_single, after_text, no_text, no_inside}
-use Rattle.opam_syntax.proofs.Shorter.{ShrinksText, piece_shrinks, first_shrinks, after_first, inside_shrinks}
+use Rattle.syntax_trees.specs.declared.token.Token.TheVariants.{Text}
+use Rattle.syntax_trees.specs.Faults.{BeginsFile}
+use Rattle.syntax_trees.specs.Following.{TokenControl as Control, at_entry, tokens_followed as followed, token_of}
+use Rattle.syntax_trees.specs.Texts.{Piece, Closes, Gives, NoPiece, piece, IsInside, closes, gives}
+use Rattle.syntax_trees.specs.Tokens.{First, End, Gap, Single, Quote, NoToken, first, Placed, placed, span_between, AreTokens, ends, gap, single, text}
+use Rattle.syntax_trees.proofs.OneTokens.{same_tokens, no_tokens, after_gap, after_single, after_text, no_text, no_inside}
+use Rattle.syntax_trees.proofs.Shorter.{ShrinksText, piece_shrinks, first_shrinks, after_first, inside_shrinks}
 use Rattle.syntax_faults.specs.Endings.{IsEscapeEnd, no_escape, escaped_quote, last_digit, two_digits, escaped_newline, AreQuotes, one_quote, three_quotes, IsEnding, no_ending, comment_ending, name_ending, scope_ending, equals_ending, plus_ending, colon_ending, text_ending, TokensFollow, GoesOn}
 use Rattle.syntax_faults.proofs.Begun.{beginnings_are_told}
 

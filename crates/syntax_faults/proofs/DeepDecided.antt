@@ -4,20 +4,20 @@ use Rattle.std.proofs.lemmas.Bool.{cases_lt, cases_order, cases_Bool}
 use Rattle.std.proofs.lemmas.List.{length-drop, append-nil}
 use Rattle.std.specs.declared.option.Option.{Option}
 use Rattle.std.specs.declared.option.Option.TheVariants.{None, Some}
-use Rattle.opam_syntax.specs.declared.limits.TheConstants.{NESTING_LIMIT}
-use Rattle.opam_syntax.specs.declared.token.Token.{Token}
-use Rattle.opam_syntax.specs.declared.token.Token.TheVariants.{Text}
-use Rattle.opam_syntax.specs.declared.tree.Span.{Span}
-use Rattle.opam_syntax.specs.Texts.{IsInside}
-use Rattle.opam_syntax.specs.Faults.{is_opening, IsTooDeep, IsDeepAt, IsNowhereDeep}
-use Rattle.opam_syntax.specs.Following.{TokenControl as Control, at_entry, tokens_followed as followed, token_of}
-use Rattle.opam_syntax.specs.Heights.{HeightState as State, height_step as step, height_start as start, height_after as exec, token_height as height, NestsBelow as Below}
-use Rattle.opam_syntax.specs.Lexes.{Lexes, none_read, gap_then, single_then, text_then}
-use Rattle.opam_syntax.specs.Tokens.{First, End, Gap, Single, Quote, NoToken, first, Placed, placed, span_between, AreTokens, ends, gap, single, text}
-use Rattle.opam_syntax.proofs.OneTokens.{gap_single, gap_quote, single_quote, gap_of, single_of, quote_of, quoted_too, same_single, same_text, same_inside}
-use Rattle.opam_syntax.proofs.Settled.{lexes_end, lexes_short}
-use Rattle.opam_syntax.proofs.Shorter.{first_shrinks, after_first, inside_shrinks}
-use Rattle.opam_syntax.proofs.Suffixes.{EndsWith}
+use Rattle.syntax_trees.specs.declared.limits.TheConstants.{NESTING_LIMIT}
+use Rattle.syntax_trees.specs.declared.token.Token.{Token}
+use Rattle.syntax_trees.specs.declared.token.Token.TheVariants.{Text}
+use Rattle.syntax_trees.specs.declared.tree.Span.{Span}
+use Rattle.syntax_trees.specs.Texts.{IsInside}
+use Rattle.syntax_trees.specs.Faults.{is_opening, IsTooDeep, IsDeepAt, IsNowhereDeep}
+use Rattle.syntax_trees.specs.Following.{TokenControl as Control, at_entry, tokens_followed as followed, token_of}
+use Rattle.syntax_trees.specs.Heights.{HeightState as State, height_step as step, height_start as start, height_after as exec, token_height as height, NestsBelow as Below}
+use Rattle.syntax_trees.specs.Lexes.{Lexes, none_read, gap_then, single_then, text_then}
+use Rattle.syntax_trees.specs.Tokens.{First, End, Gap, Single, Quote, NoToken, first, Placed, placed, span_between, AreTokens, ends, gap, single, text}
+use Rattle.syntax_trees.proofs.OneTokens.{gap_single, gap_quote, single_quote, gap_of, single_of, quote_of, quoted_too, same_single, same_text, same_inside}
+use Rattle.syntax_trees.proofs.Settled.{lexes_end, lexes_short}
+use Rattle.syntax_trees.proofs.Shorter.{first_shrinks, after_first, inside_shrinks}
+use Rattle.syntax_trees.proofs.Suffixes.{EndsWith}
 use Rattle.syntax_faults.specs.Laws.{OpensTooDeep}
 use Rattle.syntax_faults.proofs.Deciding.{Decided, decided_as, SomeInside, text_inside}
 use Rattle.syntax_faults.proofs.DeepPlaces.{front_leads, kinds_put, deep_places_are_told}

@@ -9,27 +9,27 @@ use Rattle.std.proofs.Math.Seq.{drop-append_seam}
 use Rattle.std.specs.declared.option.Option.{Option}
 use Rattle.std.specs.declared.option.Option.TheVariants.{None, Some}
 use Rattle.opam_names.proofs.Bytes.{both_left, both_right}
-use Rattle.opam_syntax.specs.declared.limits.TheConstants.{NESTING_LIMIT}
-use Rattle.opam_syntax.specs.declared.token.Token.{Token}
-use Rattle.opam_syntax.specs.declared.token.Token.TheVariants.{Text, OpenGroup, Relation, Not}
-use Rattle.opam_syntax.specs.declared.tree.RelOp.TheVariants.{Ne}
-use Rattle.opam_syntax.specs.Faults.{is_opening, opens_at, begins_longer, IsTooDeep}
-use Rattle.opam_syntax.specs.Files.{Entry, AreEntries}
-use Rattle.opam_syntax.specs.Following.{TokenControl as Control, at_entry, followed_after as followed_from, tokens_followed as followed, token_of}
-use Rattle.opam_syntax.specs.Heights.{height_start as start, height_after as exec, token_height as height}
-use Rattle.opam_syntax.specs.Lexes.{Lexes, none_read, gap_then, single_then, text_then}
-use Rattle.opam_syntax.specs.Tokens.{Single, first, Placed, placed, span_between, AreTokens, ends, gap, single, text}
-use Rattle.opam_syntax.proofs.Exact.{too_deep}
-use Rattle.opam_syntax.proofs.Followed.{file_followed}
-use Rattle.opam_syntax.proofs.HeightsTold.{nesting_told}
-use Rattle.opam_syntax.proofs.Heights.{at_place, here}
-use Rattle.opam_syntax.proofs.NowhereDeep.{Found, OpensWith, with_list, with_braces, with_group, with_not, with_defined, byte_of, opens_with, opening_first, at_token, in_order_all}
-use Rattle.opam_syntax.proofs.Settled.{LexesToo, lexes_too, lexes_end, lexes_short, opens}
-use Rattle.opam_syntax.proofs.Shorter.{first_shrinks, after_first}
-use Rattle.opam_syntax.proofs.Suffixes.{EndsWith}
-use Rattle.opam_syntax.specs.Signs.{begins_with}
-use Rattle.opam_syntax.specs.Tokens.{Gap, after_comment, sign_first}
-use Rattle.opam_syntax.proofs.WordsRead.{drop_step}
+use Rattle.syntax_trees.specs.declared.limits.TheConstants.{NESTING_LIMIT}
+use Rattle.syntax_trees.specs.declared.token.Token.{Token}
+use Rattle.syntax_trees.specs.declared.token.Token.TheVariants.{Text, OpenGroup, Relation, Not}
+use Rattle.syntax_trees.specs.declared.tree.RelOp.TheVariants.{Ne}
+use Rattle.syntax_trees.specs.Faults.{is_opening, opens_at, begins_longer, IsTooDeep}
+use Rattle.syntax_trees.specs.Files.{Entry, AreEntries}
+use Rattle.syntax_trees.specs.Following.{TokenControl as Control, at_entry, followed_after as followed_from, tokens_followed as followed, token_of}
+use Rattle.syntax_trees.specs.Heights.{height_start as start, height_after as exec, token_height as height}
+use Rattle.syntax_trees.specs.Lexes.{Lexes, none_read, gap_then, single_then, text_then}
+use Rattle.syntax_trees.specs.Tokens.{Single, first, Placed, placed, span_between, AreTokens, ends, gap, single, text}
+use Rattle.syntax_trees.proofs.Exact.{too_deep}
+use Rattle.syntax_trees.proofs.Followed.{file_followed}
+use Rattle.syntax_trees.proofs.HeightsTold.{nesting_told}
+use Rattle.syntax_trees.proofs.Heights.{at_place, here}
+use Rattle.syntax_trees.proofs.NowhereDeep.{Found, OpensWith, with_list, with_braces, with_group, with_not, with_defined, byte_of, opens_with, opening_first, at_token, in_order_all}
+use Rattle.syntax_trees.proofs.Settled.{LexesToo, lexes_too, lexes_end, lexes_short, opens}
+use Rattle.syntax_trees.proofs.Shorter.{first_shrinks, after_first}
+use Rattle.syntax_trees.proofs.Suffixes.{EndsWith}
+use Rattle.syntax_trees.specs.Signs.{begins_with}
+use Rattle.syntax_trees.specs.Tokens.{Gap, after_comment, sign_first}
+use Rattle.syntax_trees.proofs.WordsRead.{drop_step}
 use Rattle.syntax_faults.specs.Laws.{OpensTooDeep, DeepPlacesAreTold}
 use Rattle.syntax_faults.proofs.Relexed.{followed_append}
 

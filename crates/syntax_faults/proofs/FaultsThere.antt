@@ -4,19 +4,19 @@ use Rattle.std.proofs.lemmas.Bool.{cases_Bool}
 use Rattle.std.proofs.lemmas.List.{append-nil, take-append-drop, take_all}
 use Rattle.std.specs.declared.option.Option.{Option}
 use Rattle.std.specs.declared.option.Option.TheVariants.{None, Some}
-use Rattle.opam_syntax.specs.declared.fault.SyntaxFault.{SyntaxFault}
-use Rattle.opam_syntax.specs.declared.fault.SyntaxFault.TheVariants as syntax
-use Rattle.opam_syntax.specs.Doubles.{doubled_at}
-use Rattle.opam_syntax.specs.Faults.{IsDerived, BeginsFile, IsNowhereDeep, IsStrayAt, IsFaultOf}
-use Rattle.opam_syntax.specs.Files.{Entry, AreEntries, no_entry}
-use Rattle.opam_syntax.specs.Following.{ExpectedNext as Expected, AtEntry, AfterName, AfterLabel, Operand, Inside, Side, AfterPrimary, AfterBraces, OpenBracket as Frame, TokenControl as Control, at_entry, tokens_followed as followed, file_may_end, token_of}
-use Rattle.opam_syntax.specs.Tokens.{Placed, AreTokens, ends}
-use Rattle.opam_syntax.specs.Trees.{IsSpelling}
-use Rattle.opam_syntax.proofs.Ended.{file_tokens_follow}
-use Rattle.opam_syntax.proofs.Following.{HasKinds, no_kind, completion_at, completion, completed}
-use Rattle.opam_syntax.proofs.NowhereDeep.{derived_nowhere_deep}
-use Rattle.opam_syntax.proofs.OneFile.{one_derivation}
-use Rattle.opam_syntax.proofs.OneTokens.{same_tokens}
+use Rattle.syntax_trees.specs.declared.fault.SyntaxFault.{SyntaxFault}
+use Rattle.syntax_trees.specs.declared.fault.SyntaxFault.TheVariants as syntax
+use Rattle.syntax_trees.specs.Doubles.{doubled_at}
+use Rattle.syntax_trees.specs.Faults.{IsDerived, BeginsFile, IsNowhereDeep, IsStrayAt, IsFaultOf}
+use Rattle.syntax_trees.specs.Files.{Entry, AreEntries, no_entry}
+use Rattle.syntax_trees.specs.Following.{ExpectedNext as Expected, AtEntry, AfterName, AfterLabel, Operand, Inside, Side, AfterPrimary, AfterBraces, OpenBracket as Frame, TokenControl as Control, at_entry, tokens_followed as followed, file_may_end, token_of}
+use Rattle.syntax_trees.specs.Tokens.{Placed, AreTokens, ends}
+use Rattle.syntax_trees.specs.Trees.{IsSpelling}
+use Rattle.syntax_trees.proofs.Ended.{file_tokens_follow}
+use Rattle.syntax_trees.proofs.Following.{HasKinds, no_kind, completion_at, completion, completed}
+use Rattle.syntax_trees.proofs.NowhereDeep.{derived_nowhere_deep}
+use Rattle.syntax_trees.proofs.OneFile.{one_derivation}
+use Rattle.syntax_trees.proofs.OneTokens.{same_tokens}
 use Rattle.syntax_faults.specs.Laws.{FaultsAreThere, SpellingsAreFaultless}
 use Rattle.syntax_faults.proofs.Begun.{begins_front}
 use Rattle.syntax_faults.proofs.Deciding.{Decided, tokens_decided, begins_decided}

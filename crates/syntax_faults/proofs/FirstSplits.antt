@@ -5,15 +5,15 @@ use Rattle.std.proofs.lemmas.Bool.{eqb-true, eq-eqb}
 use Rattle.std.proofs.lemmas.List.{length-append, length-drop, append-nil}
 use Rattle.std.specs.declared.option.Option.{Option}
 use Rattle.std.specs.declared.option.Option.TheVariants.{None, Some}
-use Rattle.opam_syntax.specs.declared.token.Token.{Token}
-use Rattle.opam_syntax.specs.declared.token.Token.TheVariants.{Text, Colon, Update}
-use Rattle.opam_syntax.specs.declared.tree.EnvOp.TheVariants.{Before, BeforeKeep}
-use Rattle.opam_syntax.specs.Following.{TokenControl as Control, token_follows as follow, followed_after as followed_from, tokens_followed as followed}
-use Rattle.opam_syntax.specs.Signs.{signs, sign_among, begins_with}
-use Rattle.opam_syntax.specs.Texts.{closes}
-use Rattle.opam_syntax.specs.Tokens.{First, End, Gap, Single, Quote, NoToken, first, is_blank, word_first, sign_first}
-use Rattle.opam_syntax.specs.Words.{is_word_byte, begins_word, word_of, word_token}
-use Rattle.opam_syntax.proofs.Shorter.{Shrinks, first_shrinks}
+use Rattle.syntax_trees.specs.declared.token.Token.{Token}
+use Rattle.syntax_trees.specs.declared.token.Token.TheVariants.{Text, Colon, Update}
+use Rattle.syntax_trees.specs.declared.tree.EnvOp.TheVariants.{Before, BeforeKeep}
+use Rattle.syntax_trees.specs.Following.{TokenControl as Control, token_follows as follow, followed_after as followed_from, tokens_followed as followed}
+use Rattle.syntax_trees.specs.Signs.{signs, sign_among, begins_with}
+use Rattle.syntax_trees.specs.Texts.{closes}
+use Rattle.syntax_trees.specs.Tokens.{First, End, Gap, Single, Quote, NoToken, first, is_blank, word_first, sign_first}
+use Rattle.syntax_trees.specs.Words.{is_word_byte, begins_word, word_of, word_token}
+use Rattle.syntax_trees.proofs.Shorter.{Shrinks, first_shrinks}
 use Rattle.syntax_faults.specs.Endings.{IsEnding, no_ending, equals_ending, comment_ending, text_ending, no_escape, one_quote}
 use Rattle.syntax_faults.proofs.TokenKinds.{AreKinds, no_kinds, single_kinds, FirstGives, QuoteGives, kinds_first}
 use Rattle.syntax_faults.proofs.Splits.{Ends, CanEnd, Past, FirstSplit, gap_settled, single_settled, quote_settled, none_settled, loose, first_if, and_if, line_split, comment_split, sign_split, signs_split, Follows, follows_first, gives_single}

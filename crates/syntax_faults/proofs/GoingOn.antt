@@ -1,11 +1,11 @@
 -- Where anything makes tokens of bytes that may follow one another, one of the endings does.
 use Rattle.std.proofs.Common.{◌≡◌, ℕ, zero, suc, ◌≤◌, Bool, List, [], ◌∷◌, ◌++◌, length, refl, ap, sym, subst, ◌∙◌, arith}
 use Rattle.std.specs.declared.option.Option.TheVariants.{Some}
-use Rattle.opam_syntax.specs.declared.token.Token.{Token}
-use Rattle.opam_syntax.specs.declared.token.Token.TheVariants.{Text}
-use Rattle.opam_syntax.specs.Following.{TokenControl as Control, token_follows as follow, followed_after as followed_from, tokens_followed as followed}
-use Rattle.opam_syntax.specs.Texts.{IsInside}
-use Rattle.opam_syntax.specs.Tokens.{First, Gap, Single, Quote, first}
+use Rattle.syntax_trees.specs.declared.token.Token.{Token}
+use Rattle.syntax_trees.specs.declared.token.Token.TheVariants.{Text}
+use Rattle.syntax_trees.specs.Following.{TokenControl as Control, token_follows as follow, followed_after as followed_from, tokens_followed as followed}
+use Rattle.syntax_trees.specs.Texts.{IsInside}
+use Rattle.syntax_trees.specs.Tokens.{First, Gap, Single, Quote, first}
 use Rattle.syntax_faults.specs.Endings.{IsEnding, no_ending}
 use Rattle.syntax_faults.proofs.TokenKinds.{AreKinds, no_kinds, gap_kinds, single_kinds, text_kinds, FirstGives, SingleGives, QuoteGives, kinds_first, first_kinds}
 use Rattle.syntax_faults.proofs.TextSplits.{inside_settled, inside_loose, inside_split}

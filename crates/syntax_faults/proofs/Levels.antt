@@ -1,10 +1,10 @@
 -- Tokens whose opening ones are nested in less than a limit leave nothing nested in more.
 use Rattle.std.proofs.Common.{◌≡◌, ℕ, ◌<◌, ◌≤◌, true, List, [], ◌∷◌, refl, arith}
 use Rattle.std.specs.Prelude.{⊤}
-use Rattle.opam_syntax.specs.declared.token.Token.{Token}
-use Rattle.opam_syntax.specs.declared.token.Token.TheVariants.{Flag, Int, Text, Plain, Scoped, Colon, OpenList, CloseList, OpenBraces, CloseBraces, OpenGroup, CloseGroup, Relation, Update, And, Or, Not, Defined}
-use Rattle.opam_syntax.specs.Faults.{is_opening}
-use Rattle.opam_syntax.specs.Heights.{OperandMode as Mode, Wanted, LeftRead, RightWanted, RightRead, HeightState as State, KeptHeight as Kept, operand_height as begin_at, begun_height as begin, relation_height as relation_at, bracket_closed as closed, height_step as step, token_height as height}
+use Rattle.syntax_trees.specs.declared.token.Token.{Token}
+use Rattle.syntax_trees.specs.declared.token.Token.TheVariants.{Flag, Int, Text, Plain, Scoped, Colon, OpenList, CloseList, OpenBraces, CloseBraces, OpenGroup, CloseGroup, Relation, Update, And, Or, Not, Defined}
+use Rattle.syntax_trees.specs.Faults.{is_opening}
+use Rattle.syntax_trees.specs.Heights.{OperandMode as Mode, Wanted, LeftRead, RightWanted, RightRead, HeightState as State, KeptHeight as Kept, operand_height as begin_at, begun_height as begin, relation_height as relation_at, bracket_closed as closed, height_step as step, token_height as height}
 
 -- what is known again is no higher
 abbrev pub KeptWithin : ℕ → List Kept → Type 0

@@ -4,15 +4,15 @@ use Rattle.std.specs.Prelude.{◌==◌, ◌||◌}
 use Rattle.std.proofs.lemmas.List.{length-append, length-drop, append_cancel_right}
 use Rattle.std.specs.declared.option.Option.{Option}
 use Rattle.std.specs.declared.option.Option.TheVariants.{None, Some}
-use Rattle.opam_syntax.specs.declared.token.Token.{Token}
-use Rattle.opam_syntax.specs.declared.token.Token.TheVariants.{Text}
-use Rattle.opam_syntax.specs.Following.{TokenControl as Control, followed_after as followed_from, token_of}
-use Rattle.opam_syntax.specs.Lexes.{Lexes, none_read, gap_then, single_then, text_then}
-use Rattle.opam_syntax.specs.Tokens.{First, Gap, Single, Quote, first, Placed, placed, span_between}
-use Rattle.opam_syntax.proofs.OneTokens.{gap_of, single_of, quote_of, quoted_too, same_inside}
-use Rattle.opam_syntax.proofs.Settled.{lexes_end, lexes_short, LexesToo}
-use Rattle.opam_syntax.proofs.Shorter.{first_shrinks, after_first, inside_shrinks}
-use Rattle.opam_syntax.proofs.Suffixes.{EndsWith}
+use Rattle.syntax_trees.specs.declared.token.Token.{Token}
+use Rattle.syntax_trees.specs.declared.token.Token.TheVariants.{Text}
+use Rattle.syntax_trees.specs.Following.{TokenControl as Control, followed_after as followed_from, token_of}
+use Rattle.syntax_trees.specs.Lexes.{Lexes, none_read, gap_then, single_then, text_then}
+use Rattle.syntax_trees.specs.Tokens.{First, Gap, Single, Quote, first, Placed, placed, span_between}
+use Rattle.syntax_trees.proofs.OneTokens.{gap_of, single_of, quote_of, quoted_too, same_inside}
+use Rattle.syntax_trees.proofs.Settled.{lexes_end, lexes_short, LexesToo}
+use Rattle.syntax_trees.proofs.Shorter.{first_shrinks, after_first, inside_shrinks}
+use Rattle.syntax_trees.proofs.Suffixes.{EndsWith}
 use Rattle.syntax_faults.specs.Endings.{begins_apart}
 use Rattle.syntax_faults.proofs.TokenKinds.{AreKinds, gap_kinds, single_kinds, text_kinds, SingleGives, QuoteGives, kinds_first}
 use Rattle.syntax_faults.proofs.TextSplits.{inside_settled, inside_loose, inside_split}

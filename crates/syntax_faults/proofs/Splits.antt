@@ -4,13 +4,13 @@ use Rattle.std.specs.Prelude.{◌==◌, ◌&&◌, ◌||◌, codes, ⊤}
 use Rattle.std.proofs.lemmas.List.{length-drop}
 use Rattle.std.specs.declared.option.Option.{Option}
 use Rattle.std.specs.declared.option.Option.TheVariants.{None, Some}
-use Rattle.opam_syntax.specs.declared.token.Token.{Token}
-use Rattle.opam_syntax.specs.Following.{TokenControl as Control, token_follows as follow, followed_after as followed_from, tokens_followed as followed}
-use Rattle.opam_syntax.specs.Signs.{signs, sign_among, begins_with}
+use Rattle.syntax_trees.specs.declared.token.Token.{Token}
+use Rattle.syntax_trees.specs.Following.{TokenControl as Control, token_follows as follow, followed_after as followed_from, tokens_followed as followed}
+use Rattle.syntax_trees.specs.Signs.{signs, sign_among, begins_with}
 use Rattle.opam_names.proofs.Bytes.{both_left}
 use Rattle.std.specs.List.{list_all}
 use Rattle.std.proofs.lemmas.Bool.{eqb-true}
-use Rattle.opam_syntax.specs.Tokens.{First, End, Gap, Single, Quote, NoToken, after_line, after_comment, sign_first}
+use Rattle.syntax_trees.specs.Tokens.{First, End, Gap, Single, Quote, NoToken, after_line, after_comment, sign_first}
 use Rattle.syntax_faults.specs.Endings.{IsEnding, no_ending, comment_ending, equals_ending, plus_ending, colon_ending}
 use Rattle.syntax_faults.proofs.TokenKinds.{no_kinds, FirstGives, SingleGives}
 

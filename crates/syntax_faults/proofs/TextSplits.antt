@@ -5,9 +5,9 @@ use Rattle.std.proofs.lemmas.Bool.{and_from, leb-true, le-leb}
 use Rattle.std.proofs.lemmas.List.{length-drop}
 use Rattle.opam_names.specs.Names.{is_digit}
 use Rattle.opam_names.proofs.Bytes.{both_left}
-use Rattle.opam_syntax.specs.Signs.{begins_with}
-use Rattle.opam_syntax.specs.Texts.{Piece, Closes, Gives, NoPiece, piece, quote, escape, decimal, hexadecimal, is_hexadecimal, simple, simple_escapes, after_spaces, IsInside, closes, gives}
-use Rattle.opam_syntax.proofs.Shorter.{piece_shrinks, ShrinksText, inside_shrinks}
+use Rattle.syntax_trees.specs.Signs.{begins_with}
+use Rattle.syntax_trees.specs.Texts.{Piece, Closes, Gives, NoPiece, piece, quote, escape, decimal, hexadecimal, is_hexadecimal, simple, simple_escapes, after_spaces, IsInside, closes, gives}
+use Rattle.syntax_trees.proofs.Shorter.{piece_shrinks, ShrinksText, inside_shrinks}
 use Rattle.syntax_faults.specs.Endings.{IsEnding, text_ending, IsEscapeEnd, no_escape, escaped_quote, last_digit, two_digits, escaped_newline, AreQuotes, one_quote, three_quotes}
 
 -- the quotes that end a text

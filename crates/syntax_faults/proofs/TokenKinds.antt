@@ -1,10 +1,10 @@
 -- The tokens of bytes without their places.
 use Rattle.std.proofs.Common.{◌≡◌, ℕ, Bool, List, [], ◌∷◌, map, refl, ap, sym, subst}
-use Rattle.opam_syntax.specs.declared.token.Token.{Token}
-use Rattle.opam_syntax.specs.declared.token.Token.TheVariants.{Text}
-use Rattle.opam_syntax.specs.Following.{token_of}
-use Rattle.opam_syntax.specs.Texts.{IsInside}
-use Rattle.opam_syntax.specs.Tokens.{First, End, Gap, Single, Quote, NoToken, first, Placed, placed, span_between, AreTokens, ends, gap, single, text}
+use Rattle.syntax_trees.specs.declared.token.Token.{Token}
+use Rattle.syntax_trees.specs.declared.token.Token.TheVariants.{Text}
+use Rattle.syntax_trees.specs.Following.{token_of}
+use Rattle.syntax_trees.specs.Texts.{IsInside}
+use Rattle.syntax_trees.specs.Tokens.{First, End, Gap, Single, Quote, NoToken, first, Placed, placed, span_between, AreTokens, ends, gap, single, text}
 
 -- the bytes spell tokens of these kinds
 pub data AreKinds : List ℕ → List Token → Type 0 where

@@ -3,11 +3,11 @@ use Rattle.std.proofs.Common.{◌≡◌, ℕ, Bool, true, false, not, List, [], 
 use Rattle.std.specs.List.{list_all}
 use Rattle.std.proofs.Math.Seq.{drop-length}
 use Rattle.std.specs.declared.option.Option.TheVariants.{Some}
-use Rattle.opam_syntax.specs.declared.token.Token.{Token}
-use Rattle.opam_syntax.specs.declared.token.Token.TheVariants.{Plain, Scoped}
-use Rattle.opam_syntax.specs.Following.{TokenControl as Control}
-use Rattle.opam_syntax.specs.Tokens.{First, Single, word_first}
-use Rattle.opam_syntax.specs.Words.{is_word_byte, begins_word, word_of, word_token, is_scoped}
+use Rattle.syntax_trees.specs.declared.token.Token.{Token}
+use Rattle.syntax_trees.specs.declared.token.Token.TheVariants.{Plain, Scoped}
+use Rattle.syntax_trees.specs.Following.{TokenControl as Control}
+use Rattle.syntax_trees.specs.Tokens.{First, Single, word_first}
+use Rattle.syntax_trees.specs.Words.{is_word_byte, begins_word, word_of, word_token, is_scoped}
 use Rattle.syntax_faults.specs.Endings.{name_ending, scope_ending}
 use Rattle.syntax_faults.proofs.Splits.{Ends, Follows, one_left}
 use Rattle.syntax_faults.proofs.WordSplits.{has_colon}

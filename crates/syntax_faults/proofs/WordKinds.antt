@@ -10,10 +10,10 @@ use Rattle.opam_names.specs.Orders.{number}
 use Rattle.opam_names.specs.Paths.{onto_first}
 use Rattle.opam_names.proofs.Bytes.{both_left, both_right}
 use Rattle.opam_names.proofs.ByteOrders.{equal_bytes}
-use Rattle.opam_syntax.specs.declared.token.Token.{Token}
-use Rattle.opam_syntax.specs.declared.token.Token.TheVariants.{Flag, Int, Plain, Scoped}
-use Rattle.opam_syntax.specs.Words.{is_word_byte, are_digits, natural_of, negative_of, int_of, before, after, scope_parts, is_scope_part, is_plain, is_scoped, identifier_of, int_or_identifier, word_token}
-use Rattle.opam_syntax.proofs.PrintWords.{skip, enter, other_byte}
+use Rattle.syntax_trees.specs.declared.token.Token.{Token}
+use Rattle.syntax_trees.specs.declared.token.Token.TheVariants.{Flag, Int, Plain, Scoped}
+use Rattle.syntax_trees.specs.Words.{is_word_byte, are_digits, natural_of, negative_of, int_of, before, after, scope_parts, is_scope_part, is_plain, is_scoped, identifier_of, int_or_identifier, word_token}
+use Rattle.syntax_trees.proofs.PrintWords.{skip, enter, other_byte}
 use Rattle.syntax_faults.proofs.WordSplits.{has_colon}
 
 -- which token a word is

@@ -2,8 +2,8 @@
 use Rattle.std.proofs.Common.{◌≡◌, ℕ, ◌+◌, Bool, true, false, not, List, [], ◌∷◌, ◌++◌, length, drop, refl, ap, sym, subst, ◌∙◌, arith}
 use Rattle.std.specs.Prelude.{◌==◌, ◌&&◌, ◌||◌}
 use Rattle.std.specs.List.{list_any}
-use Rattle.opam_syntax.specs.Words.{is_word_byte, begins_word, joins, word_of}
-use Rattle.opam_syntax.proofs.PrintWords.{skip, enter, other_byte}
+use Rattle.syntax_trees.specs.Words.{is_word_byte, begins_word, joins, word_of}
+use Rattle.syntax_trees.proofs.PrintWords.{skip, enter, other_byte}
 
 -- a colon is among the bytes
 abbrev pub has_colon : List ℕ → Bool

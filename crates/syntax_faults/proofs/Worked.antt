@@ -4,18 +4,18 @@ use Rattle.std.specs.Prelude.{codes, pos, nat_le, ◌&&◌}
 use Rattle.std.proofs.lemmas.Bool.{lt-leb}
 use Rattle.std.specs.declared.option.Option.TheVariants.{None, Some}
 use Rattle.opam_names.specs.Names.{is_digit}
-use Rattle.opam_syntax.specs.declared.token.Token.{Token}
-use Rattle.opam_syntax.specs.declared.token.Token.TheVariants.{Int, Plain, Scoped, Colon, Not, Relation, Update, Text}
-use Rattle.opam_syntax.specs.declared.tree.RelOp.TheVariants.{Ne}
-use Rattle.opam_syntax.specs.declared.tree.EnvOp.TheVariants.{Before}
-use Rattle.opam_syntax.specs.declared.tree.Span.{Span}
-use Rattle.opam_syntax.specs.Faults.{IsDerived}
-use Rattle.opam_syntax.specs.Following.{ExpectedNext, Operand, AfterPrimary, TokenControl as Control, at_entry, tokens_followed as followed, followed_after as followed_from, token_of}
-use Rattle.opam_syntax.specs.Lexes.{none_read, gap_then, single_then}
-use Rattle.opam_syntax.specs.Texts.{Gives, NoPiece, piece, decimal, IsInside, closes, gives}
-use Rattle.opam_syntax.specs.Tokens.{Placed, placed, ends, single, text}
-use Rattle.opam_syntax.proofs.OneTokens.{no_tokens, after_gap, after_single, no_text, no_inside}
-use Rattle.opam_syntax.proofs.Shallow.{short_is_shallow}
+use Rattle.syntax_trees.specs.declared.token.Token.{Token}
+use Rattle.syntax_trees.specs.declared.token.Token.TheVariants.{Int, Plain, Scoped, Colon, Not, Relation, Update, Text}
+use Rattle.syntax_trees.specs.declared.tree.RelOp.TheVariants.{Ne}
+use Rattle.syntax_trees.specs.declared.tree.EnvOp.TheVariants.{Before}
+use Rattle.syntax_trees.specs.declared.tree.Span.{Span}
+use Rattle.syntax_trees.specs.Faults.{IsDerived}
+use Rattle.syntax_trees.specs.Following.{ExpectedNext, Operand, AfterPrimary, TokenControl as Control, at_entry, tokens_followed as followed, followed_after as followed_from, token_of}
+use Rattle.syntax_trees.specs.Lexes.{none_read, gap_then, single_then}
+use Rattle.syntax_trees.specs.Texts.{Gives, NoPiece, piece, decimal, IsInside, closes, gives}
+use Rattle.syntax_trees.specs.Tokens.{Placed, placed, ends, single, text}
+use Rattle.syntax_trees.proofs.OneTokens.{no_tokens, after_gap, after_single, no_text, no_inside}
+use Rattle.syntax_trees.proofs.Shallow.{short_is_shallow}
 use Rattle.syntax_faults.specs.Endings.{GoesOn, no_ending, name_ending, equals_ending, text_ending, no_escape, two_digits, one_quote}
 use Rattle.syntax_faults.specs.Rows.{RowsAreTold}
 use Rattle.syntax_faults.proofs.Begun.{stray_is_told, ended_inside_is_told}

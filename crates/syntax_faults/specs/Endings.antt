@@ -2,8 +2,8 @@
 -- file format: lexical conventions). The endings are this project's own: shortest ones, one for each thing that may be unfinished.
 use Rattle.std.specs.Prelude.{◌≡◌, ℕ, List, [], ◌∷◌, ◌++◌, length, map, Bool, true, false, not, codes, ◌==◌, ◌||◌}
 use Rattle.std.specs.declared.option.Option.TheVariants.{Some}
-use Rattle.opam_syntax.specs.Following.{TokenControl, tokens_followed, token_of}
-use Rattle.opam_syntax.specs.Tokens.{Placed, AreTokens}
+use Rattle.syntax_trees.specs.Following.{TokenControl, tokens_followed, token_of}
+use Rattle.syntax_trees.specs.Tokens.{Placed, AreTokens}
 
 -- what an escape that was begun may want: nothing, a byte, digits, or the newline after a carriage return
 pub data IsEscapeEnd : List ℕ → Type 0 where

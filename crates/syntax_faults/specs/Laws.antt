@@ -1,17 +1,17 @@
 -- Laws of bytes that begin a file, and of the places of faults.
 use Rattle.std.specs.Prelude.{◌≡◌, ◌≢◌, ◌⊎◌, ℕ, ◌<◌, ◌≤◌, List, [], ◌∷◌, ◌++◌, length, drop, map, false, IsTrue}
 use Rattle.std.specs.declared.option.Option.TheVariants.{None, Some}
-use Rattle.opam_syntax.specs.declared.fault.SyntaxFault.{SyntaxFault}
-use Rattle.opam_syntax.specs.declared.fault.SyntaxFault.TheVariants.{Ended, Stray, Memory}
-use Rattle.opam_syntax.specs.declared.limits.TheConstants.{NESTING_LIMIT}
-use Rattle.opam_syntax.specs.declared.token.Token.{Token}
-use Rattle.opam_syntax.specs.Faults.{is_opening, IsDerived, BeginsFile, IsTooDeep, IsNowhereDeep, IsFaultOf}
-use Rattle.opam_syntax.specs.Files.{Entry}
-use Rattle.opam_syntax.specs.Following.{TokenControl, at_entry, tokens_followed, token_of}
-use Rattle.opam_syntax.specs.Heights.{height_start, height_after, token_height}
-use Rattle.opam_syntax.specs.Lexes.{Lexes}
-use Rattle.opam_syntax.specs.Tokens.{Placed, first, Single}
-use Rattle.opam_syntax.specs.Trees.{IsSpelling}
+use Rattle.syntax_trees.specs.declared.fault.SyntaxFault.{SyntaxFault}
+use Rattle.syntax_trees.specs.declared.fault.SyntaxFault.TheVariants.{Ended, Stray, Memory}
+use Rattle.syntax_trees.specs.declared.limits.TheConstants.{NESTING_LIMIT}
+use Rattle.syntax_trees.specs.declared.token.Token.{Token}
+use Rattle.syntax_trees.specs.Faults.{is_opening, IsDerived, BeginsFile, IsTooDeep, IsNowhereDeep, IsFaultOf}
+use Rattle.syntax_trees.specs.Files.{Entry}
+use Rattle.syntax_trees.specs.Following.{TokenControl, at_entry, tokens_followed, token_of}
+use Rattle.syntax_trees.specs.Heights.{height_start, height_after, token_height}
+use Rattle.syntax_trees.specs.Lexes.{Lexes}
+use Rattle.syntax_trees.specs.Tokens.{Placed, first, Single}
+use Rattle.syntax_trees.specs.Trees.{IsSpelling}
 use Rattle.syntax_faults.specs.Endings.{GoesOn, begins_apart}
 
 -- bytes begin a file exactly where one of the endings makes of them tokens that may follow one another

@@ -1,7 +1,7 @@
 -- Worked rows: where some short texts stop to begin a file, or have ended.
 use Rattle.std.specs.Prelude.{codes}
-use Rattle.opam_syntax.specs.declared.fault.SyntaxFault.TheVariants.{Ended, Stray}
-use Rattle.opam_syntax.specs.Faults.{IsFaultOf}
+use Rattle.syntax_trees.specs.declared.fault.SyntaxFault.TheVariants.{Ended, Stray}
+use Rattle.syntax_trees.specs.Faults.{IsFaultOf}
 
 -- these texts stop to begin a file, or have ended, at these places
 pub record RowsAreTold : Type 0 where

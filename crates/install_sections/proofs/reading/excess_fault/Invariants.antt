@@ -1,5 +1,5 @@
 use Rattle.std.proofs.Common.{◌≡◌, drop}
-use Rattle.opam_syntax.specs.Trees.{items_of}
+use Rattle.syntax_trees.specs.Trees.{items_of}
 use Rattle.install_sections.specs.declared.limits.TheConstants.{ITEM_LIMIT}
 use Rattle.install_sections.specs.Placements.{items_in}
 use Rattle.install_sections.proofs.Told.{told}

@@ -1,5 +1,5 @@
 use Rattle.std.proofs.Common.{rules, ap, arith}
-use Rattle.opam_syntax.specs.declared.tree.Value.{the_lemmas}
+use Rattle.syntax_trees.specs.declared.tree.Value.{the_lemmas}
 use Rattle.opam_filter.specs.Trees.{read}
 use Rattle.opam_filter.proofs.Built.{left_of, right_of, lone_filter, no_other_filter, read_lone, as_well}
 use Rattle.opam_filter.proofs.building.+build_filter.Goals as goal

@@ -1,5 +1,5 @@
 use Rattle.std.proofs.Common.{ap, rules}
-use Rattle.opam_syntax.specs.declared.tree.Value.{the_lemmas}
+use Rattle.syntax_trees.specs.declared.tree.Value.{the_lemmas}
 use Rattle.opam_filter.specs.Faults.{Judged}
 use Rattle.opam_filter.specs.Trees.{read}
 use Rattle.opam_filter.proofs.Built.{name_before, formula_of_none, formula_of_several, next_sound, read_lone, as_well}

@@ -1,6 +1,6 @@
 use Rattle.std.proofs.Common.{IfOk, ◌≡◌, lit<, subst}
 use Rattle.std.proofs.lemmas.Str.Pattern.{split_once_first}
-use Rattle.opam_syntax.specs.declared.tree.Var.{Var}
+use Rattle.syntax_trees.specs.declared.tree.Var.{Var}
 use Rattle.opam_filter.proofs.Cuts.{without_colon}
 use Rattle.opam_filter.proofs.texts.variable_of.Goals as goal
 

@@ -1,5 +1,5 @@
 use Rattle.std.proofs.Common.{◌≡◌, ◌++◌}
-use Rattle.opam_syntax.specs.Trees.{items_of}
+use Rattle.syntax_trees.specs.Trees.{items_of}
 use Rattle.opam_lint.specs.Findings.{items_findings}
 use Rattle.opam_lint.proofs.Told.{told}
 use Rattle.opam_lint.proofs.findings.add_items.Given as goal

@@ -1,5 +1,5 @@
 use Rattle.std.proofs.Common.{ap, ◌∙◌}
-use Rattle.opam_syntax.specs.Trees.{items_of}
+use Rattle.syntax_trees.specs.Trees.{items_of}
 use Rattle.opam_lint.specs.Findings.{file_findings}
 use Rattle.opam_lint.proofs.laws.findings_are_determined.Goals as goal
 

@@ -1,5 +1,5 @@
 use Rattle.std.proofs.Common.{◌≡◌}
-use Rattle.opam_syntax.specs.Trees.{items_of}
+use Rattle.syntax_trees.specs.Trees.{items_of}
 use Rattle.opam_package.specs.FieldFaults.{file_faults}
 use Rattle.opam_package.specs.PackageFaults.{first_fault, sooner}
 use Rattle.opam_package.proofs.Told.{told}

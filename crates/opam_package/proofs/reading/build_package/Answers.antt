@@ -1,5 +1,5 @@
 use Rattle.std.proofs.Common.{codes}
-use Rattle.opam_syntax.specs.Trees.{items_of}
+use Rattle.syntax_trees.specs.Trees.{items_of}
 use Rattle.opam_package.proofs.FieldSound.{field_sound}
 use Rattle.opam_package.proofs.reading.build_package.Goals as goal
 

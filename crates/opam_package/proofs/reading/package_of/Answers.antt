@@ -1,5 +1,5 @@
 use Rattle.std.proofs.Common.{sym, ◌∙◌}
-use Rattle.opam_syntax.specs.Trees.{items_of}
+use Rattle.syntax_trees.specs.Trees.{items_of}
 use Rattle.opam_package.specs.FieldFaults.{file_faults}
 use Rattle.opam_package.proofs.ToldFirst.{none_told}
 use Rattle.opam_package.proofs.reading.package_of.Goals as goal

@@ -1,5 +1,5 @@
 use Rattle.std.proofs.Common.{◌≡◌}
-use Rattle.opam_syntax.specs.Trees.{items_of}
+use Rattle.syntax_trees.specs.Trees.{items_of}
 use Rattle.opam_package.specs.Packages as packages
 use Rattle.opam_package.proofs.Told.{told}
 use Rattle.opam_package.proofs.sources.first_source.Given as goal

@@ -1,7 +1,0 @@
-use Rattle.std.proofs.Common.{◌≡◌, drop}
-use Rattle.opam_syntax.specs.Tokens.{after_line}
-use Rattle.opam_syntax.proofs.gaps.line_len.Given as goal
-
--- no newline so far
-abbrev pub invariant-loop-at : goal.invariant-loop-at
-invariant-loop-at l = after_line l.bytes ≡ after_line (drop l.at l.bytes)

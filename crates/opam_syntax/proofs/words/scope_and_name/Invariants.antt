@@ -1,6 +1,0 @@
-use Rattle.opam_syntax.proofs.WordsRead.{Sought}
-use Rattle.opam_syntax.proofs.words.scope_and_name.Given as goal
-
--- no colon so far
-abbrev pub invariant-loop-at : goal.invariant-loop-at
-invariant-loop-at l = Sought l.word l.at
