@@ -9,10 +9,10 @@ use crate::members::vars_seen;
 use opam_filter::{Vars, expand};
 use opam_names::{Items, Name, OutOfMemory, Pkg, Text};
 use opam_package::{EnvUpdate, Package};
-use syntax_trees::EnvOp;
 use package_vars::Facts;
 use std::alloc::Global;
 use std::collections::BTreeMap;
+use syntax_trees::EnvOp;
 
 /// What is handed in, the switch and the package, the exports, and the updates of the package itself under its variables,
 /// one after another.

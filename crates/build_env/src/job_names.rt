@@ -8,8 +8,8 @@ use crate::Export;
 use opam_filter::{Filter, asked, asked_in};
 use opam_names::{Items, Name, OutOfMemory};
 use opam_package::{Arg, Command, EnvUpdate, Package, Word};
-use syntax_trees::{Var, Word as VarWord};
 use std::alloc::Global;
+use syntax_trees::{Var, Word as VarWord};
 
 /// The names with which the commands of a package and its own updates look up variables.
 pub(crate) fn asked_by_own(alloc: Global, built: &Package) -> Result<Items<Name>, OutOfMemory>

@@ -3,8 +3,8 @@ ghost use Rattle.std.specs.Prelude.{◌≡◌};
 ghost use Rattle.install_sections.specs.declared.fault.InstallFault.TheVariants.{Memory};
 
 use opam_names::OutOfMemory;
-use syntax_trees::{Span, SyntaxFault};
 use std::alloc::AllocError;
+use syntax_trees::{Span, SyntaxFault};
 
 /// What is wrong with an install file, and where (opam manual, package definitions: `.install` files).
 #[derive(Clone, Copy, Debug, PartialEq, Eq)]

@@ -11,8 +11,8 @@ use crate::verdicts::verdict;
 use crate::views::{list_in, values_of};
 use crate::{InstallFault, Placement, Section, Verdict};
 use opam_names::{Items, Name, OutOfMemory};
-use syntax_trees::{File, Item, Key, Node, Span};
 use std::alloc::Global;
+use syntax_trees::{File, Item, Key, Node, Span};
 
 /// What is known after some items: the files of those that are placed, and the first fault.
 #[derive(Drop)]

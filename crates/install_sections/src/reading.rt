@@ -13,8 +13,8 @@ use crate::views::values_of;
 use crate::{InstallFault, Placement, Section};
 use opam_names::{Items, Name};
 use opam_syntax::read_file;
-use syntax_trees::{FILE_LIMIT, File, Item, Node, SyntaxFault};
 use std::alloc::Global;
+use syntax_trees::{FILE_LIMIT, File, Item, Node, SyntaxFault};
 
 // The values of a field that is a section.
 fn entry_items<'a>(field: &str, item: &'a Item) -> &'a [Node]

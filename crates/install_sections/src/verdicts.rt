@@ -10,8 +10,8 @@ use crate::views::text_in;
 use crate::written_paths::{path_in, safe_path};
 use crate::{InstallFault, Placement, Section, Verdict};
 use opam_names::{Name, OutOfMemory, RelPath};
-use syntax_trees::{Node, Span, Value};
 use std::alloc::Global;
+use syntax_trees::{Node, Span, Value};
 
 fn is_optional(text: &[u8]) -> bool
     ensures { result ≡ verdicts.is_optional text.now }

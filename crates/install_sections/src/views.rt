@@ -3,8 +3,8 @@ ghost use Rattle.std.specs.Option.{option_copied};
 ghost use Rattle.std.specs.Prelude.{◌≡◌};
 ghost use Rattle.install_sections.specs.Views as views;
 
-use syntax_trees::{Node, Value};
 use std::slice;
+use syntax_trees::{Node, Value};
 
 /// The bytes of a text.
 pub(crate) fn text_in(node: &Node) -> Option<&[u8]>

@@ -7,8 +7,8 @@ ghost use Rattle.lock_check.specs.declared.lock_fault.LockFault.TheVariants.{Mem
 
 use opam_filter::FilterFault;
 use opam_names::OutOfMemory;
-use syntax_trees::{Span, SyntaxFault};
 use std::alloc::{AllocError, AllocFailed};
+use syntax_trees::{Span, SyntaxFault};
 
 /// What is wrong with a lock file, and where.
 #[derive(Clone, Copy, Debug, PartialEq, Eq)]

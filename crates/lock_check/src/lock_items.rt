@@ -16,10 +16,10 @@ use crate::LockFault;
 use crate::lock_fault::{inner_fault, sooner};
 use opam_filter::{FilterFault, Truth, Vars, eval, filter_fault, read_filter};
 use opam_names::{Items, Name, OutOfMemory, Pkg, ReadFault, Version};
-use syntax_trees::{Node, RelOp, Value};
 use std::alloc::Global;
 use std::collections::BTreeSet;
 use std::slice;
+use syntax_trees::{Node, RelOp, Value};
 
 fn text_in(node: &Node) -> Option<&[u8]>
     ensures { option_copied result ≡ views.text_in node.now }

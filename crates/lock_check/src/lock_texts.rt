@@ -10,8 +10,8 @@ use crate::{Lock, LockFault};
 use opam_filter::Vars;
 use opam_names::{OutOfMemory, Pkg, order_is_stable};
 use opam_syntax::read_file;
-use syntax_trees::{FILE_LIMIT, File, Node, SyntaxFault};
 use std::alloc::Global;
+use syntax_trees::{FILE_LIMIT, File, Node, SyntaxFault};
 
 fn lock_items(file: &File) -> &[Node]
     ensures { result.now ≡ lock_items (depends_of file.now) }

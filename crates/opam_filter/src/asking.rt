@@ -9,9 +9,9 @@ use crate::Filter;
 use crate::parts::{are_joined, scope_parts};
 use crate::texts::{asked_for, first_hole};
 use opam_names::{Items, NAME_LIMIT, Name, OutOfMemory, ReadFault};
-use syntax_trees::Var;
 use std::alloc::Global;
 use std::collections::BTreeSet;
+use syntax_trees::Var;
 
 /// The names of packages with which the variables of a filter are looked up, in the order of their bytes, each once.
 pub fn asked(alloc: Global, filter: &Filter) -> Result<Items<Name>, OutOfMemory>

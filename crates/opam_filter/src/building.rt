@@ -7,9 +7,9 @@ ghost use Rattle.opam_filter.specs.Trees.{read};
 use crate::copies::copy_variable;
 use crate::{Braces, Filter, Formula};
 use opam_names::{Name, OutOfMemory, ReadFault, Text};
-use syntax_trees::{Node, Value};
 use sqlite_items::{Boxed, Items};
 use std::alloc::Global;
+use syntax_trees::{Node, Value};
 
 fn build_text(alloc: Global, bytes: &[u8]) -> Result<Text, OutOfMemory>
     requires { IsTrue (is_text bytes.now) }

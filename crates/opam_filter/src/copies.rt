@@ -4,9 +4,9 @@ ghost use Rattle.opam_filter.specs.Scopes.{plain, scoped};
 
 use crate::{Filter, Reduced, Test};
 use opam_names::{OutOfMemory, Text};
-use syntax_trees::{Var, Word};
 use sqlite_items::{Boxed, Items};
 use std::alloc::Global;
+use syntax_trees::{Var, Word};
 
 pub(crate) fn word_of(alloc: Global, text: &str) -> Result<Word, OutOfMemory>
     ensures { IfOk result (λ word. word ≡ text.now) }

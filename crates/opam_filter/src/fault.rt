@@ -3,8 +3,8 @@ ghost use Rattle.std.specs.Prelude.{◌≡◌};
 ghost use Rattle.opam_filter.specs.declared.fault.FilterFault.TheVariants.{Memory};
 
 use opam_names::OutOfMemory;
-use syntax_trees::Span;
 use std::alloc::{AllocError, AllocFailed};
+use syntax_trees::Span;
 
 /// What is wrong with a value, and where.
 #[derive(Clone, Copy, Debug, PartialEq, Eq)]

@@ -1,7 +1,7 @@
 // Filters, as they are read from a file.
 use opam_names::Text;
-use syntax_trees::{RelOp, Var};
 use sqlite_items::{Boxed, Items};
+use syntax_trees::{RelOp, Var};
 
 /// A filter (opam manual, filters).
 #[derive(Drop)]

@@ -1,8 +1,8 @@
 // Formulas over packages, as they are read from a file, and what is left of them once variables have values.
 use crate::{Filter, Truth};
 use opam_names::{Name, Text};
-use syntax_trees::RelOp;
 use sqlite_items::Items;
+use syntax_trees::RelOp;
 
 /// A formula over packages (opam manual, package formulas).
 #[derive(Drop)]

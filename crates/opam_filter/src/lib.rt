@@ -40,12 +40,12 @@ pub use formula_laws::{
 };
 pub use judging::{filter_fault, formula_fault};
 pub use meeting::{holds, meets, names};
-pub use syntax_trees::{RelOp, Var};
 pub use reading::{read_filter, read_formula};
 pub use reducing::reduce;
 pub use rising::rises;
 pub use scopes::value_at;
 pub use separating::atoms;
+pub use syntax_trees::{RelOp, Var};
 pub use truth::{Truth, VarValue};
 pub use value_laws::{asked_is_enough, names_rise, texts_are_cut};
 pub use vars::Vars;

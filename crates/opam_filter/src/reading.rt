@@ -6,8 +6,8 @@ ghost use Rattle.opam_filter.specs.Trees.{read};
 use crate::building::{build_filter, build_formula};
 use crate::judging::{filter_fault, formula_fault};
 use crate::{Filter, FilterFault, Formula};
-use syntax_trees::Node;
 use std::alloc::Global;
+use syntax_trees::Node;
 
 /// The filter that a node is, or the first of its faults (opam manual, filters).
 pub fn read_filter(alloc: Global, node: &Node) -> Result<Filter, FilterFault>

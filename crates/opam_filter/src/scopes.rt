@@ -9,8 +9,8 @@ use crate::parts::{are_joined, scope_parts};
 use crate::truths::{both, known_truth, value_of};
 use crate::{Truth, VarValue, Vars};
 use opam_names::{OutOfMemory, Text};
-use syntax_trees::Var;
 use std::alloc::Global;
+use syntax_trees::Var;
 
 /// What a variable is.
 pub fn value_at(alloc: Global, vars: &Vars, variable: &Var) -> Result<Option<VarValue>, OutOfMemory>

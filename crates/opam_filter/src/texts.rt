@@ -4,8 +4,8 @@ ghost use Rattle.opam_filter.specs.Texts.{asked_for, closed, opened, parts_of, v
 
 use crate::copies::{plain, scoped};
 use opam_names::OutOfMemory;
-use syntax_trees::Var;
 use std::alloc::Global;
+use syntax_trees::Var;
 
 /// The first interpolation of a text, what stands before it and what follows it.
 #[derive(Clone, Copy)]

@@ -6,10 +6,10 @@ ghost use Rattle.std.specs.Prelude.{◌≡◌, IfOk, OnErr, OnOk};
 use crate::VarValue;
 use crate::copies::copy_variable;
 use opam_names::OutOfMemory;
-use syntax_trees::Var;
 use std::alloc::Global;
 use std::collections::BTreeMap;
 use std::marker::Model;
+use syntax_trees::Var;
 
 /// Variables with their values, seen as a finite map.
 #[derive(Drop)]

@@ -7,8 +7,8 @@ use crate::{Finding, Problem};
 use opam_filter::FilterFault;
 use opam_names::OutOfMemory;
 use opam_package::PackageFault;
-use syntax_trees::SyntaxFault;
 use std::alloc::Global;
+use syntax_trees::SyntaxFault;
 
 fn syntax_text(fault: SyntaxFault) -> &'static str
     ensures { result.now ≡ texts.syntax_text fault }

@@ -16,8 +16,8 @@ use crate::naming::told_package;
 use crate::{Finding, Problem};
 use opam_names::OutOfMemory;
 use opam_package::{fault_start, field_of, file_fault, is_refused, section_fault};
-use syntax_trees::{File, Item, Span};
 use std::alloc::Global;
+use syntax_trees::{File, Item, Span};
 
 // Adds a finding where there is something to find.
 fn add_if(

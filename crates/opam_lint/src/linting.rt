@@ -9,8 +9,8 @@ use crate::{Finding, Problem};
 use opam_names::OutOfMemory;
 use opam_package::{OPAM_LIMIT, PackageFault};
 use opam_syntax::read_file;
-use syntax_trees::SyntaxFault;
 use std::alloc::Global;
+use syntax_trees::SyntaxFault;
 
 fn syntax_code(fault: SyntaxFault) -> u8
     ensures { result ≡ linted.syntax_code fault }

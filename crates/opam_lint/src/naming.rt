@@ -8,8 +8,8 @@ ghost use Rattle.opam_lint.specs.Findings.{text_or, told_package};
 
 use opam_names::{Name, OutOfMemory, Pkg, ReadFault, Version};
 use opam_package::field_of;
-use syntax_trees::{File, Node, Value};
 use std::alloc::Global;
+use syntax_trees::{File, Node, Value};
 
 // The bytes of a text; none of another value.
 fn text_of(node: &Node) -> &[u8]

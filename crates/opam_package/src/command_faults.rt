@@ -10,8 +10,8 @@ use crate::forms::{bytes_fault, inner_filter_fault};
 use crate::limits::COMMAND_LIMIT;
 use crate::sooner::sooner;
 use crate::views::{bare, braces_in, is_list, list_in, text_in, variable_in};
-use syntax_trees::{Node, Span};
 use std::slice;
+use syntax_trees::{Node, Span};
 
 // Braces hold one filter; a value need not have them.
 fn braces_fault(braces: Option<&[Node]>, span: Span) -> Option<PackageFault>

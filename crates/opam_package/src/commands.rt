@@ -13,8 +13,8 @@ use crate::views::{bare, braces_in, list_in, variable_in};
 use crate::{Arg, Command, Word};
 use opam_filter::{Filter, FilterFault, read_filter};
 use opam_names::{Items, OutOfMemory};
-use syntax_trees::{Node, Span};
 use std::alloc::Global;
+use syntax_trees::{Node, Span};
 
 /// The filter that a node is.
 pub(crate) fn build_filter(alloc: Global, node: &Node) -> Result<Filter, OutOfMemory>

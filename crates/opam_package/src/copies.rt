@@ -4,8 +4,8 @@ ghost use Rattle.std.specs.Prelude.{◌≡◌, IfOk};
 use crate::{Arg, Command, EnvUpdate, Member, Need, Package, Word};
 use opam_filter::{Filter, Reduced};
 use opam_names::{Items, OutOfMemory, RelPath, Text};
-use syntax_trees::{Var, Word as Name};
 use std::alloc::Global;
+use syntax_trees::{Var, Word as Name};
 
 fn copy_name(alloc: Global, name: &Name) -> Result<Name, OutOfMemory>
     ensures { IfOk result (λ copy. copy ≡ name.now) }

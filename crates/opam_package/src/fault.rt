@@ -4,8 +4,8 @@ ghost use Rattle.opam_package.specs.declared.fault.PackageFault.TheVariants.{Mem
 
 use opam_filter::FilterFault;
 use opam_names::OutOfMemory;
-use syntax_trees::{Span, SyntaxFault};
 use std::alloc::{AllocError, AllocFailed};
+use syntax_trees::{Span, SyntaxFault};
 
 /// What is wrong with an opam file, and where.
 #[derive(Clone, Copy, Debug, PartialEq, Eq)]

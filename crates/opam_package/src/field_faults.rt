@@ -17,8 +17,8 @@ use crate::update_faults::updates_fault;
 use crate::views::text_in;
 use indexmap::IndexMap;
 use opam_names::{OutOfMemory, Pkg};
-use syntax_trees::{File, Item, Node, Word};
 use std::alloc::Global;
+use syntax_trees::{File, Item, Node, Word};
 
 // The bytes of a text; none of another value.
 fn text_of(node: &Node) -> &[u8]

@@ -18,8 +18,8 @@ use opam_filter::{
     FilterFault, Formula, Reduced, Truth, VarValue, Vars, atoms, eval, read_formula, reduce,
 };
 use opam_names::{Items, OutOfMemory, Pkg, Text};
-use syntax_trees::{Node, Var, Word};
 use std::alloc::Global;
+use syntax_trees::{Node, Var, Word};
 
 fn set_value(alloc: Global, vars: &mut Vars, name: &str, value: VarValue) -> Result<(), OutOfMemory>
     ensures { OnOk result (vars.new ≡ table.insert vars.old (plain name.now) value) }

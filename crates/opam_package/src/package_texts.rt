@@ -9,8 +9,8 @@ use crate::{Package, PackageFault};
 use opam_filter::Vars;
 use opam_names::Pkg;
 use opam_syntax::read_file;
-use syntax_trees::SyntaxFault;
 use std::alloc::Global;
+use syntax_trees::SyntaxFault;
 
 /// The package that the text of an opam file is of; a fault of the syntax comes first, then the first fault of the file
 /// by the places where they stand (opam manual, file format: opam).

@@ -7,8 +7,8 @@ use crate::forms::text_of_bytes;
 use crate::relatives::shortened;
 use crate::views::{text_in, values_of};
 use opam_names::{Items, OutOfMemory, ReadFault, RelPath, tests_say_the_same};
-use syntax_trees::{Node, Span};
 use std::alloc::Global;
+use syntax_trees::{Node, Span};
 
 fn build_path(alloc: Global, text: &str, span: Span) -> Result<RelPath, OutOfMemory>
     requires { relatives.path_faults text.now span ≡ [] }

@@ -22,8 +22,8 @@ use crate::updates::build_updates;
 use crate::{Command, EnvUpdate, Need, Package, PackageFault};
 use opam_filter::{Reduced, Vars};
 use opam_names::{Items, OutOfMemory, Pkg, RelPath, Text};
-use syntax_trees::File;
 use std::alloc::Global;
+use syntax_trees::File;
 
 fn depends_of(alloc: Global, file: &File, vars: &Vars) -> Result<Items<Need>, OutOfMemory>
     requires { listed formulas_faults (field_of (codes "depends") (items_of file.now)) ≡ [] }

@@ -12,8 +12,8 @@ use crate::limits::SUBST_LIMIT;
 use crate::sooner::sooner;
 use crate::views::{text_in, values_of};
 use opam_names::{OutOfMemory, RelPath};
-use syntax_trees::{Node, Span};
 use std::alloc::Global;
+use syntax_trees::{Node, Span};
 
 // What stands between the slashes.
 fn parts_of(alloc: Global, text: &str) -> Result<Vec<&str>, OutOfMemory>

@@ -11,8 +11,8 @@ use crate::forms::text_of_bytes;
 use crate::views::{list_in, text_in};
 use indexmap::IndexMap;
 use opam_names::{Items, OutOfMemory, Text};
-use syntax_trees::{File, Item, Node, Word};
 use std::alloc::Global;
+use syntax_trees::{File, Item, Node, Word};
 
 // A path from the root, as it is or behind `file://`.
 fn source_path(bytes: &[u8]) -> Option<&[u8]>

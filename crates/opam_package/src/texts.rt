@@ -6,8 +6,8 @@ ghost use Rattle.opam_package.specs.Forms.{text_faults, text_of, texts_faults, t
 use crate::forms::text_of_bytes;
 use crate::views::{text_in, values_of};
 use opam_names::{Items, OutOfMemory, Text};
-use syntax_trees::Node;
 use std::alloc::Global;
+use syntax_trees::Node;
 
 /// The text that a node is.
 pub(crate) fn build_text(alloc: Global, node: &Node) -> Result<Text, OutOfMemory>

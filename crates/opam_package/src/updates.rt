@@ -10,8 +10,8 @@ use crate::texts::build_text;
 use crate::update_faults::begins_with_list;
 use crate::views::{list_in, text_in, variable_in};
 use opam_names::{Items, OutOfMemory, Text};
-use syntax_trees::{EnvOp, Node, Span, Value};
 use std::alloc::Global;
+use syntax_trees::{EnvOp, Node, Span, Value};
 
 // The name on the left side.
 fn build_target(alloc: Global, node: &Node) -> Result<Text, OutOfMemory>

@@ -1,1 +1,12 @@
 pub mod FileRead
+pub mod PrintFolds
+pub mod Printed
+pub mod PrintJoined
+pub mod PrintNumbers
+pub mod PrintTokens
+pub mod PrintTexts
+pub mod Placeless
+pub mod PrintValues
+pub mod PrintFiles
+pub mod PrintNames
+pub mod PrintLaw

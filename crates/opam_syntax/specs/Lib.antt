@@ -1,1 +1,4 @@
+pub mod Spelling
+pub mod Printed
+pub mod Rows
 pub mod Reading

@@ -1,13 +1,14 @@
 // Calls of `opam_syntax`.
 use crate::trees::{read_tree, syntax_word};
 use indexmap::IndexMap;
-use syntax_trees::{File, Item, Key, Label, Node, print_file};
+use opam_syntax::print_file;
 use row_script::fault::Fault;
 use row_script::lexer::Word;
 use row_script::script::{Call, same};
 use row_script::show::quoted;
 use sqlite_items::Items;
 use std::alloc::Global;
+use syntax_trees::{File, Item, Key, Label, Node};
 
 pub fn answer(alloc: Global, call: &Call) -> Result<String, Fault> {
     let words = call.words.as_slice();

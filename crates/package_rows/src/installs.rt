@@ -1,13 +1,13 @@
 // Calls of `install_sections`. Up to eight files are shown, of more their number.
 use crate::spans::{show_at, show_doubled};
 use install_sections::{InstallFault, Layout, Placement, Section, read_install};
-use syntax_trees::{FILE_LIMIT, SyntaxFault};
 use row_script::fault::Fault;
 use row_script::lexer::Word;
 use row_script::script::Call;
 use row_script::show::{plain, push_quoted};
 use row_script::values::name_of;
 use std::alloc::Global;
+use syntax_trees::{FILE_LIMIT, SyntaxFault};
 
 /// More files are counted.
 const SHOWN: usize = 8;

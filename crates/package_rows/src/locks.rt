@@ -4,12 +4,12 @@ use crate::spans::{show_at, show_doubled};
 use lock_check::{Lock, LockFault, read_lock};
 use opam_filter::Vars;
 use opam_names::Pkg;
-use syntax_trees::{FILE_LIMIT, SyntaxFault};
 use row_script::fault::Fault;
 use row_script::lexer::Word;
 use row_script::script::Call;
 use row_script::show::plain;
 use std::alloc::Global;
+use syntax_trees::{FILE_LIMIT, SyntaxFault};
 
 pub fn answer(alloc: Global, call: &Call, vars: &Vars) -> Result<String, Fault> {
     match call.name.as_str() {

@@ -2,9 +2,9 @@
 use crate::filter_show::{push_filter, push_reduced, push_var};
 use opam_filter::Filter;
 use opam_package::{Arg, Command, EnvUpdate, Need, Word};
-use syntax_trees::EnvOp;
 use row_script::fault::Fault;
 use row_script::show::push_quoted;
+use syntax_trees::EnvOp;
 
 /// The three readings, one after another.
 pub fn push_need(text: &mut String, need: &Need) -> Result<(), Fault> {

@@ -13,13 +13,13 @@ use opam_package::{
     Command, EnvUpdate, Need, OPAM_LIMIT, Package, PackageFault, edges, forbids, needs, package_of,
     read_package,
 };
-use syntax_trees::{File, Item, Key, SyntaxFault};
 use row_script::fault::Fault;
 use row_script::lexer::Word;
 use row_script::script::Call;
 use row_script::show::{answered, plain, push_quoted, quoted};
 use row_script::values::pkg_of;
 use std::alloc::Global;
+use syntax_trees::{File, Item, Key, SyntaxFault};
 
 pub fn answer(alloc: Global, call: &Call, vars: &Vars) -> Result<String, Fault> {
     let [one, other, words @ ..] = call.words.as_slice() else {

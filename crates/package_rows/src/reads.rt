@@ -3,12 +3,14 @@
 use crate::spans::show_doubled;
 use indexmap::IndexMap;
 use opam_syntax::read_file;
-use syntax_trees::{EnvOp, FILE_LIMIT, File, Item, Key, Node, RelOp, Span, SyntaxFault, Value, Var, text_of};
 use row_script::fault::Fault;
 use row_script::lexer::Word;
 use row_script::script::Call;
 use row_script::show::{plain, push_quoted, quoted};
 use std::alloc::Global;
+use syntax_trees::{
+    EnvOp, FILE_LIMIT, File, Item, Key, Node, RelOp, Span, SyntaxFault, Value, Var, text_of,
+};
 
 pub fn answer(alloc: Global, call: &Call) -> Result<String, Fault> {
     let words = call.words.as_slice();
@@ -112,7 +114,10 @@ fn push_item(text: &mut String, key: &Key, item: &Item, span: Span) -> Result<()
     }
 }
 
-fn push_fields(text: &mut String, fields: &IndexMap<syntax_trees::Word, Node>) -> Result<(), Fault> {
+fn push_fields(
+    text: &mut String,
+    fields: &IndexMap<syntax_trees::Word, Node>,
+) -> Result<(), Fault> {
     push(text, " {")?;
     for (name, value) in fields {
         push(text, " ")?;

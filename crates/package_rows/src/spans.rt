@@ -1,7 +1,7 @@
 // Places in a text as they are shown.
-use syntax_trees::Span;
 use row_script::fault::Fault;
 use std::alloc::Global;
+use syntax_trees::Span;
 
 /// What there is at a place.
 pub fn show_at(alloc: Global, what: &str, span: Span) -> Result<String, Fault> {

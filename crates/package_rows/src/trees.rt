@@ -2,11 +2,11 @@
 // boolean, `a` or `a:b` a word. A sign takes the values before it: `=` and the other relations two, `_=` and its kin one,
 // `!` and `?` one, `&2` and `|2` as many as they say, `[2]` and `(2)` too, and `{2}` two and the value that they stand
 // after. `@3-7` says where the value before it stands. This project's own.
-use syntax_trees::{EnvOp, Node, RelOp, Span, Value, Var};
 use row_script::fault::Fault;
 use row_script::lexer::Word;
 use sqlite_items::{Boxed, Items};
 use std::alloc::Global;
+use syntax_trees::{EnvOp, Node, RelOp, Span, Value, Var};
 
 /// The value that the words write.
 pub fn read_tree(alloc: Global, words: &[Word]) -> Result<Node, Fault> {

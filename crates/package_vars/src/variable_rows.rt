@@ -7,8 +7,8 @@ ghost use Rattle.package_vars.specs.Steps.{with_rows};
 
 use opam_filter::{VarValue, Vars};
 use opam_names::{OutOfMemory, Text};
-use syntax_trees::{Var, Word};
 use std::alloc::Global;
+use syntax_trees::{Var, Word};
 
 fn word_of(alloc: Global, text: &str) -> Result<Word, OutOfMemory>
     ensures { IfOk result (λ word. word ≡ text.now) }

@@ -13,7 +13,7 @@ use Rattle.opam_names.proofs.ByteOrders.{equal_bytes}
 use Rattle.syntax_trees.specs.declared.token.Token.{Token}
 use Rattle.syntax_trees.specs.declared.token.Token.TheVariants.{Flag, Int, Plain, Scoped}
 use Rattle.syntax_trees.specs.Words.{is_word_byte, are_digits, natural_of, negative_of, int_of, before, after, scope_parts, is_scope_part, is_plain, is_scoped, identifier_of, int_or_identifier, word_token}
-use Rattle.syntax_trees.proofs.PrintWords.{skip, enter, other_byte}
+use Rattle.syntax_trees.proofs.WordsAgain.{skip, enter, other_byte}
 use Rattle.syntax_faults.proofs.WordSplits.{has_colon}
 
 -- which token a word is

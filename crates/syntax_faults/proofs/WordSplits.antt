@@ -3,7 +3,7 @@ use Rattle.std.proofs.Common.{◌≡◌, ℕ, ◌+◌, Bool, true, false, not, L
 use Rattle.std.specs.Prelude.{◌==◌, ◌&&◌, ◌||◌}
 use Rattle.std.specs.List.{list_any}
 use Rattle.syntax_trees.specs.Words.{is_word_byte, begins_word, joins, word_of}
-use Rattle.syntax_trees.proofs.PrintWords.{skip, enter, other_byte}
+use Rattle.syntax_trees.proofs.WordsAgain.{skip, enter, other_byte}
 
 -- a colon is among the bytes
 abbrev pub has_colon : List ℕ → Bool

@@ -28,7 +28,7 @@ use Rattle.syntax_trees.specs.Files.{Contents, Entry}
 use Rattle.syntax_trees.specs.Nesting.{first_of}
 use Rattle.syntax_trees.specs.Read.{field_of, read_fields, read_entries}
 use Rattle.syntax_trees.specs.Trees.{contents_of, told_items}
-use Rattle.syntax_trees.proofs.PrintWords.{skip, enter}
+use Rattle.syntax_trees.proofs.WordsAgain.{skip, enter}
 
 keys_more : {K X : Type 0} (es : List (K × X)) (k : K) (x : X) → keys_of (es ++ (k, x) ∷ []) ≡ keys_of es ++ k ∷ []
 keys_more [] k x = refl

@@ -1,7 +1,7 @@
 -- The worked rows, derived step by step.
-use Rattle.std.proofs.Common.{◌≡◌, ℕ, List, [], ◌∷◌, ◌++◌, Bool, true, false, not, ◌&&◌, refl, ap, ◌∙◌, lit≤}
+use Rattle.std.proofs.Common.{◌≡◌, ℕ, List, [], ◌∷◌, ◌++◌, Bool, true, false, not, ◌&&◌, refl, lit≤}
 use Rattle.std.specs.Prelude.{codes, IsFalse, ◌==◌, if◌then◌else◌}
-use Rattle.std.specs.List.{list_all, flat_map}
+use Rattle.std.specs.List.{list_all}
 use Rattle.opam_names.proofs.Bytes.{both_left, both_right}
 use Rattle.std.specs.declared.option.Option.TheVariants.{Some}
 use Rattle.syntax_trees.specs.declared.token.Token.{Token}
@@ -13,13 +13,11 @@ use Rattle.syntax_trees.specs.declared.tree.Value.{Value}
 use Rattle.syntax_trees.specs.Texts.{IsInside, closes, gives}
 use Rattle.syntax_trees.specs.Tokens.{Placed, placed, AreTokens, ends, gap, single, text}
 use Rattle.syntax_trees.specs.Grammar.{Spells, atom_of, begins_relation, ValueLevel, RelationLevel, BracedLevel, PrimaryLevel, atom, list, bare, braced, pre_relation, alone, relation, no_prefix, conjunction, disjunction, no_update, no_value, value, last_conjunct, conjunct, last_disjunct}
-use Rattle.syntax_trees.specs.Files.{Contents, AreEntries, no_entry, field_next}
+use Rattle.syntax_trees.specs.Files.{AreEntries, no_entry, field_next}
 use Rattle.syntax_trees.specs.Trees.{IsSpelling}
-use Rattle.syntax_trees.proofs.Folds.{depth_at, text_at}
-use Rattle.syntax_trees.specs.Rows.{RowsAreSpelled, SampleIsPrinted}
+use Rattle.syntax_trees.proofs.Folds.{depth_at}
+use Rattle.syntax_trees.specs.Rows.{RowsAreSpelled}
 use Rattle.syntax_trees.specs.Samples.{sample_text, sample, lock_text, lock, dune_text, dune, fmt_text, fmt, app_text, app, doubled_text, doubled}
-use Rattle.syntax_trees.specs.Spelling.{item_text}
-use Rattle.syntax_trees.specs.declared.file.Key.{Key}
 
 abbrev pub on : Token → ℕ → ℕ → Placed
 on token from to = placed token (record { start = from; end = to })
@@ -214,12 +212,6 @@ doubled_are_tokens =
 pub doubled_are_entries : AreEntries doubled_tokens doubled
 doubled_are_entries =
     field_next (atom_value refl refl) (field_next (atom_value refl refl) no_entry)
-
-abbrev same_text : List (Key × Contents) → List ℕ
-same_text items = flat_map (λ item. item_text item.0 item.1) items
-
-pub sample_is_printed : SampleIsPrinted
-sample_is_printed file has = ap same_text has.items ∙ simp text_at refl
 
 pub rows_are_spelled : RowsAreSpelled
 rows_are_spelled = record {

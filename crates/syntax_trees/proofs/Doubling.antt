@@ -18,7 +18,7 @@ use Rattle.syntax_trees.specs.Files.{Entry, AreFields, AreEntries, no_entry, fie
 use Rattle.syntax_trees.specs.Nesting.{first_of}
 use Rattle.syntax_trees.specs.Read.{read_fields, read_places, read_contents, contents_places, entry_of, read_entries}
 use Rattle.syntax_trees.specs.Tokens.{Placed, AreTokens}
-use Rattle.syntax_trees.proofs.PrintNames.{fields_end, other_section}
+use Rattle.syntax_trees.proofs.SingleNames.{fields_end, other_section}
 use Rattle.syntax_trees.proofs.Spanned.{InOrder, in_order, lies}
 
 -- items stand one after another from this place on

@@ -1,12 +1,11 @@
 -- Folds over trees, a layer at a time.
-use Rattle.std.proofs.Common.{◌≡◌, ℕ, List, ap, ◌∙◌}
+use Rattle.std.proofs.Common.{◌≡◌, ℕ, ap, ◌∙◌}
 use Rattle.syntax_trees.specs.declared.tree.Node.{Node}
 use Rattle.syntax_trees.specs.declared.tree.Span.{Span}
 use Rattle.syntax_trees.specs.declared.tree.Value.{Value, roll-Value}
 use Rattle.syntax_trees.specs.declared.tree.Value.TheOpen.{Value-F, Node-F}
 use Rattle.syntax_trees.specs.declared.tree.Value.TheFolds.{fold-Node, fold-Value, fold-roll-Node, fold-roll-Value, map-Value}
 use Rattle.syntax_trees.specs.Nesting.{depth, layer_depth, node_depth}
-use Rattle.syntax_trees.specs.Spelling.{value_text, layer_text, node_text}
 
 abbrev pub node_at : Value-F Value Node → Span → Node
 node_at value span = record { value = roll-Value value; span = span }
@@ -22,7 +21,3 @@ fold_node A B step step' value span =
 pub depth_at : (value : Value-F Value Node) (span : Span) → depth (node_at value span)
     ≡ layer_depth (map-Value Value Node ℕ ℕ (fold-Value ℕ ℕ layer_depth node_depth) depth value)
 depth_at = fold_node ℕ ℕ layer_depth node_depth
-
-pub text_at : (value : Value-F Value Node) (span : Span) → value_text (node_at value span)
-    ≡ layer_text (map-Value Value Node (List ℕ) (List ℕ) (fold-Value (List ℕ) (List ℕ) layer_text node_text) value_text value)
-text_at = fold_node (List ℕ) (List ℕ) layer_text node_text

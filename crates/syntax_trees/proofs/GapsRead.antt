@@ -3,7 +3,7 @@ use Rattle.std.proofs.Common.{◌≡◌, ℕ, ◌+◌, ◌<◌, true, List, [], 
 use Rattle.std.proofs.lemmas.List.{drop-drop}
 use Rattle.syntax_trees.specs.Signs.{begins_with}
 use Rattle.syntax_trees.specs.Tokens.{Gap, after_comment}
-use Rattle.syntax_trees.proofs.PrintWords.{enter}
+use Rattle.syntax_trees.proofs.WordsAgain.{enter}
 use Rattle.syntax_trees.proofs.WordsRead.{drop_step}
 
 pub comment_found : (bytes : List ℕ) (at : ℕ) → at < length bytes → get_or bytes at 0 ≡ 42 → begins_with (41 ∷ []) (drop (at + 1) bytes) ≡ true

@@ -22,7 +22,7 @@ use Rattle.syntax_trees.specs.Texts.{IsInside}
 use Rattle.syntax_trees.specs.Tokens.{Gap, Quote, first, after_line, Placed, placed, span_between, AreTokens, ends, gap, single, text}
 use Rattle.syntax_trees.specs.Words.{word_of}
 use Rattle.syntax_trees.proofs.OneTokens.{no_tokens, no_text, after_gap, after_single, after_text}
-use Rattle.syntax_trees.proofs.PrintWords.{skip, enter}
+use Rattle.syntax_trees.proofs.WordsAgain.{skip, enter}
 use Rattle.syntax_trees.proofs.WordsRead.{drop_step, word_is_ascii}
 
 -- bytes are the first and the others

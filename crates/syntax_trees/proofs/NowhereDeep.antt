@@ -24,7 +24,7 @@ use Rattle.syntax_trees.specs.Faults.{is_opening, opens_at, begins_longer, IsNow
 use Rattle.syntax_trees.specs.Laws.{FilesAreNowhereDeep, FilesAreFaultless}
 use Rattle.syntax_trees.proofs.OneFault.{no_fault}
 use Rattle.syntax_trees.proofs.OneTokens.{same_tokens, after_gap, after_single, after_text}
-use Rattle.syntax_trees.proofs.PrintWords.{skip}
+use Rattle.syntax_trees.proofs.WordsAgain.{skip}
 use Rattle.syntax_trees.proofs.Shorter.{first_shrinks, after_first}
 use Rattle.syntax_trees.proofs.Spanned.{InOrder, in_order}
 use Rattle.syntax_trees.proofs.WordsRead.{drop_step}

@@ -13,7 +13,7 @@ use Rattle.opam_names.specs.Orders.{number, number_after}
 use Rattle.opam_names.specs.Paths.{onto_first}
 use Rattle.syntax_trees.specs.Lexed.{is_colon, is_plus, small_number}
 use Rattle.syntax_trees.specs.Words.{is_word_byte, joins, word_of, are_digits, before, after, scope_parts}
-use Rattle.syntax_trees.proofs.PrintWords.{skip, enter, other_byte}
+use Rattle.syntax_trees.proofs.WordsAgain.{skip, enter, other_byte}
 
 pub drop_step : (xs : List ℕ) (i : ℕ) → i < length xs → drop i xs ≡ get_or xs i 0 ∷ drop (i + 1) xs
 drop_step xs i l = rw (add-one, drop-cons xs i 0)

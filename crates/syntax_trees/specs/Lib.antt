@@ -8,7 +8,6 @@ pub mod Nesting
 pub mod Doubles
 pub mod Trees
 pub mod Faults
-pub mod Spelling
 pub mod Spans
 pub mod Samples
 pub mod Rows
@@ -16,7 +15,6 @@ pub mod Lexes
 pub mod Following
 pub mod Heights
 pub mod Laws
-pub mod Printed
 pub mod Read
 pub mod Lexed
 pub mod Parsing

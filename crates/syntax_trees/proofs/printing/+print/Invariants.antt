@@ -1,9 +1,0 @@
-use Rattle.std.proofs.Common.{◌≡◌, ◌++◌, drop, map}
-use Rattle.syntax_trees.specs.Spelling.{joined_by, value_text}
-use Rattle.syntax_trees.proofs.PrintJoined.{followed}
-use Rattle.syntax_trees.proofs.printing.+print.Given as goal
-
--- what is printed, and then what is left
-abbrev pub invariant-print_joined-loop-node : goal.invariant-print_joined-loop-node
-invariant-print_joined-loop-node l =
-    l.out.items ++ followed l.between (map value_text (drop l.node-index l.more)) ≡ l.fn.out.items ++ joined_by l.between (map value_text l.nodes)

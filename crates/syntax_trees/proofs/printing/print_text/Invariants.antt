@@ -1,8 +1,0 @@
-use Rattle.std.proofs.Common.{◌≡◌, ◌∷◌, ◌++◌, drop}
-use Rattle.std.specs.List.{flat_map}
-use Rattle.syntax_trees.specs.Spelling.{byte_text}
-use Rattle.syntax_trees.proofs.printing.print_text.Given as goal
-
--- what is printed, and then what is left
-abbrev pub invariant-loop-byte : goal.invariant-loop-byte
-invariant-loop-byte l = l.out.items ++ flat_map byte_text (drop l.byte-index l.bytes) ≡ l.fn.out.items ++ 34 ∷ flat_map byte_text l.bytes

@@ -1,5 +1,0 @@
-use Rattle.syntax_trees.proofs.PrintLaw.{printed_is_spelled, printed_is_read_back}
-use Rattle.syntax_trees.proofs.printing_laws.printing_reads_back.Goals as goal
-
-pub returns : goal.returns
-returns c = record { spelled = printed_is_spelled; read_back = printed_is_read_back }
