@@ -26,7 +26,7 @@ done
 work=$(mktemp -d)
 trap 'rm -rf "$work"' EXIT
 mkdir -p "$work/crates/jobs/src" "$work/crates/jobs/specs" "$work/crates/jobs/proofs"
-libraries="opam_names opam_syntax opam_filter package_vars opam_package install_sections outside_io build_env"
+libraries="opam_names syntax_trees syntax_faults opam_syntax opam_filter package_vars opam_package install_sections outside_io build_env"
 for crate in $libraries; do
     cp -R "$top/crates/$crate" "$work/crates/$crate"
     rm -rf "$work/crates/$crate/out"
@@ -44,11 +44,11 @@ use build_env::{Export, job_for};
 use install_sections::read_install;
 use opam_names::{Items, Name, OutOfMemory, Pkg, Text};
 use opam_package::{EnvUpdate, Package};
-use opam_syntax::{EnvOp, FILE_LIMIT};
 use package_vars::{Facts, View};
 use std::alloc::Global;
 use std::time::Instant;
 use std::{env, io};
+use syntax_trees::{EnvOp, FILE_LIMIT};
 
 /// How many packages a view has.
 const MEMBERS: u64 = 2000;

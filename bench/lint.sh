@@ -20,7 +20,7 @@ work=$(mktemp -d)
 trap 'rm -rf "$work"' EXIT
 program=$work/crates/linter
 mkdir -p "$program/src" "$program/specs" "$program/proofs"
-libraries="opam_names opam_syntax opam_filter opam_package opam_lint"
+libraries="opam_names syntax_trees syntax_faults opam_syntax opam_filter opam_package opam_lint"
 for crate in $libraries; do
     cp -R "$top/crates/$crate" "$work/crates/$crate"
     rm -rf "$work/crates/$crate/out"
@@ -36,10 +36,11 @@ cat >"$program/src/main.rt" <<'RATTLE'
 
 use opam_lint::lint;
 use opam_package::OPAM_LIMIT;
-use opam_syntax::{FILE_LIMIT, read_file};
+use opam_syntax::read_file;
 use std::alloc::Global;
 use std::io::{BufRead, BufReader};
 use std::{env, fs, io};
+use syntax_trees::FILE_LIMIT;
 
 fn files(alloc: Global, bytes: &[u8]) -> u64 {
     if bytes.len() <= FILE_LIMIT && read_file(alloc, bytes).is_ok() {

@@ -28,7 +28,7 @@ work=$(mktemp -d)
 trap 'rm -rf "$work"' EXIT
 program=$work/crates/finder
 mkdir -p "$program/src" "$program/specs" "$program/proofs"
-libraries="opam_names opam_syntax opam_filter opam_package outside_io folder_repo"
+libraries="opam_names syntax_trees syntax_faults opam_syntax opam_filter opam_package outside_io folder_repo"
 for crate in $libraries; do
     cp -R "$top/crates/$crate" "$work/crates/$crate"
     rm -rf "$work/crates/$crate/out"
@@ -45,11 +45,12 @@ cat >"$program/src/main.rt" <<'RATTLE'
 use folder_repo::find;
 use opam_filter::Vars;
 use opam_names::Pkg;
-use opam_syntax::{FILE_LIMIT, read_file};
+use opam_syntax::read_file;
 use outside_io::MemoryHost;
 use std::alloc::Global;
 use std::io::{BufRead, BufReader};
 use std::{env, fs, io};
+use syntax_trees::FILE_LIMIT;
 
 /// So many bytes may be read of a repository.
 const ROOM: u64 = 268435456;

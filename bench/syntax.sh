@@ -34,21 +34,22 @@ work=$(mktemp -d)
 trap 'rm -rf "$work"' EXIT
 program=$work/crates/syntax_reader
 mkdir -p "$program/src"
-for crate in opam_names opam_syntax; do
+for crate in opam_names syntax_trees syntax_faults opam_syntax; do
     cp -R "$top/crates/$crate" "$work/crates/$crate"
     rm -rf "$work/crates/$crate/out"
 done
-grep -E '^opam_(names|syntax):' "$top/crates.txt" >"$work/crates.txt"
-echo 'syntax_reader: opam_names opam_syntax' >>"$work/crates.txt"
+grep -E '^(opam_names|syntax_trees|syntax_faults|opam_syntax):' "$top/crates.txt" >"$work/crates.txt"
+echo 'syntax_reader: opam_names syntax_trees opam_syntax' >>"$work/crates.txt"
 
 cat >"$program/src/main.rt" <<'RATTLE'
 //! Reads each text that it is given so many times, and prints how often it was a file, and what the system says of memory.
 #![tactic(auto)]
 
-use opam_syntax::{FILE_LIMIT, read_file};
+use opam_syntax::read_file;
 use std::alloc::Global;
 use std::io::{BufRead, BufReader};
 use std::{env, fs, io};
+use syntax_trees::FILE_LIMIT;
 
 fn count_files(alloc: Global, texts: &[Vec<u8>]) -> u64 {
     let mut count = 0u64;
