@@ -1,6 +1,6 @@
 -- A newline after bytes that spell tokens leaves these tokens as they are, whatever stands after it.
-use Rattle.std.proofs.Common.{◌≡◌, ℕ, ◌+◌, ◌<◌, ◌≤◌, Bool, true, false, not, List, [], ◌∷◌, ◌++◌, length, drop, refl, ap, sym, subst, ◌∙◌, map, if◌then◌else◌, ◌⊎◌, inl, inr}
-use Rattle.std.specs.Prelude.{◌==◌, ◌&&◌, ◌||◌, codes, nat_le}
+use Rattle.std.proofs.Common.{◌≡◌, ℕ, Bool, true, false, not, List, [], ◌∷◌, ◌++◌, length, drop, refl, ap, sym, subst, ◌∙◌, map, if◌then◌else◌, ◌⊎◌, inl, inr}
+use Rattle.std.specs.Prelude.{◌==◌, ◌&&◌, ◌||◌, codes}
 use Rattle.std.specs.List.{list_all}
 use Rattle.std.specs.declared.option.Option.{Option}
 use Rattle.std.specs.declared.option.Option.TheVariants.{None, Some}
@@ -10,12 +10,12 @@ use Rattle.syntax_trees.specs.declared.token.Token.{Token}
 use Rattle.syntax_trees.specs.declared.token.Token.TheVariants.{Text}
 use Rattle.syntax_trees.specs.Words.{is_word_byte, begins_word, joins, word_of, word_token}
 use Rattle.syntax_trees.specs.Signs.{signs, sign_among, begins_with}
-use Rattle.syntax_trees.specs.Texts.{Piece, Closes, Gives, NoPiece, piece, quote, escape, decimal, hexadecimal, is_hexadecimal, simple, simple_escapes, after_spaces, IsInside, closes, gives}
+use Rattle.syntax_trees.specs.Texts.{Piece, Closes, Gives, NoPiece, piece, quote, escape, decimal, hexadecimal, simple, simple_escapes, after_spaces, IsInside, closes, gives}
 use Rattle.syntax_trees.specs.Following.{token_of}
 use Rattle.syntax_trees.specs.Tokens.{First, End, Gap, Single, Quote, NoToken, first, is_blank, after_line, after_comment, word_first, sign_first, Placed, placed, span_between, AreTokens, ends, gap, single, text}
 use Rattle.syntax_trees.proofs.OneTokens.{same_tokens}
 use Rattle.syntax_trees.proofs.Settled.{LexesToo}
-use Rattle.syntax_trees.specs.Lexes.{Lexes, none_read, gap_then, single_then, text_then}
+use Rattle.syntax_trees.specs.Lexes.{none_read, gap_then, single_then, text_then}
 
 -- what bytes begin with, alone and before a newline
 data Stays (m : List ℕ) : First → First → Type 0 where

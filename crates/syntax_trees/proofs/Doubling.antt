@@ -1,22 +1,21 @@
 -- A doubled name is found with the names of each section apart, since sections begin at places of their own.
-use Rattle.std.proofs.Common.{◌≡◌, ℕ, ◌≤◌, ◌+◌, ◌-◌, Bool, true, false, ◌&&◌, ◌||◌, ◌==◌, List, [], ◌∷◌, ◌++◌, length, if◌then◌else◌, refl, sym, ap, ◌∙◌, arith}
+use Rattle.std.proofs.Common.{◌≡◌, ℕ, ◌≤◌, ◌+◌, ◌-◌, Bool, true, false, ◌&&◌, ◌||◌, List, [], ◌∷◌, ◌++◌, length, if◌then◌else◌, refl, sym, ap, ◌∙◌, arith}
 use Rattle.std.specs.Prelude.{bytes_eq}
 use Rattle.std.specs.List.{list_any}
-use Rattle.std.proofs.lemmas.Bool.{eq-eqb, ne_eqb}
+use Rattle.std.proofs.lemmas.Bool.{eq-eqb}
 use Rattle.std.proofs.lemmas.List.Folds.{list_any-append}
 use Rattle.std.specs.declared.option.Option.{Option}
-use Rattle.std.specs.declared.option.Option.TheVariants.{None, Some}
+use Rattle.std.specs.declared.option.Option.TheVariants.{Some}
 use Rattle.syntax_trees.specs.declared.entry.ReadContents.{ReadContents}
 use Rattle.syntax_trees.specs.declared.entry.ReadContents.TheVariants.{Field, Section}
 use Rattle.syntax_trees.specs.declared.entry.ReadEntry.{ReadEntry}
 use Rattle.syntax_trees.specs.declared.entry.ReadField.{ReadField}
 use Rattle.syntax_trees.specs.declared.file.Key.{Key}
-use Rattle.syntax_trees.specs.declared.tree.Span.{Span}
 use Rattle.syntax_trees.specs.Assembly.{fields_twice, contents_twice, entries_twice}
 use Rattle.syntax_trees.specs.Doubles.{Name, ItemName, FieldName, key_eq, name_eq, field_names, inner_names, names, first_doubled, doubled_at}
-use Rattle.syntax_trees.specs.Files.{Entry, AreFields, AreEntries, no_entry, field_next, section_next, labelled_next}
+use Rattle.syntax_trees.specs.Files.{Entry, AreEntries, no_entry, field_next, section_next, labelled_next}
 use Rattle.syntax_trees.specs.Nesting.{first_of}
-use Rattle.syntax_trees.specs.Read.{read_fields, read_places, read_contents, contents_places, entry_of, read_entries}
+use Rattle.syntax_trees.specs.Read.{read_fields, read_places, read_contents, contents_places, read_entries}
 use Rattle.syntax_trees.specs.Tokens.{Placed, AreTokens}
 use Rattle.syntax_trees.proofs.SingleNames.{fields_end, other_section}
 use Rattle.syntax_trees.proofs.Spanned.{InOrder, in_order, lies}

@@ -1,5 +1,5 @@
 -- Bytes whose tokens may follow one another, and are not those of a file, have ended early.
-use Rattle.std.proofs.Common.{◌≡◌, ℕ, ◌<◌, ◌≤◌, Bool, true, false, List, [], ◌∷◌, ◌++◌, length, drop, get_or, ◌+◌, refl, ap, sym, subst, ◌∙◌, arith, map, if◌then◌else◌}
+use Rattle.std.proofs.Common.{◌≡◌, ℕ, Bool, true, false, List, [], ◌∷◌, ◌++◌, length, drop, get_or, ◌+◌, refl, ap, sym, subst, ◌∙◌, arith, map, if◌then◌else◌}
 use Rattle.std.specs.Prelude.{◌==◌, codes, ⊤}
 use Rattle.std.proofs.Math.Seq.{drop-length}
 use Rattle.std.specs.declared.option.Option.{Option}
@@ -10,10 +10,10 @@ use Rattle.syntax_trees.specs.declared.token.Token.{Token}
 use Rattle.syntax_trees.specs.Words.{is_word_byte, word_of, word_token}
 use Rattle.syntax_trees.specs.Signs.{signs, sign_among, begins_with}
 use Rattle.syntax_trees.specs.Heights.{NestsBelow as Below, height_start as start}
-use Rattle.syntax_trees.specs.Following.{ExpectedNext as Expected, AtEntry, AfterName, AfterLabel, Operand, Inside, Side, AfterPrimary, AfterBraces, OpenBracket as Frame, TokenControl as Control, at_entry, tokens_followed as followed, file_may_end as whole_at, token_of}
-use Rattle.syntax_trees.specs.Tokens.{First, End, Gap, Single, Quote, NoToken, first, is_blank, after_line, after_comment, word_first, sign_first, Placed, placed, AreTokens, ends, gap, single, text}
+use Rattle.syntax_trees.specs.Following.{ExpectedNext as Expected, TokenControl as Control, at_entry, tokens_followed as followed, file_may_end as whole_at, token_of}
+use Rattle.syntax_trees.specs.Tokens.{First, End, Gap, Single, Quote, NoToken, first, is_blank, after_comment, word_first, sign_first, Placed, AreTokens, ends, gap, single, text}
 use Rattle.syntax_trees.specs.Files.{Entry, AreEntries}
-use Rattle.syntax_trees.specs.Faults.{IsDerived, BeginsFile, IsEndedAt, IsFaultOf}
+use Rattle.syntax_trees.specs.Faults.{IsDerived, BeginsFile, IsFaultOf}
 use Rattle.syntax_trees.proofs.OneTokens.{same_tokens}
 use Rattle.syntax_trees.specs.Lexes.{Lexes, none_read, gap_then, single_then, text_then}
 use Rattle.syntax_trees.proofs.NowhereDeep.{lexes_onto, opens_with}

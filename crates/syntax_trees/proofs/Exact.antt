@@ -8,21 +8,19 @@ use Rattle.std.proofs.Math.ListN.{length-take}
 use Rattle.std.specs.declared.option.Option.TheVariants.{Some}
 use Rattle.syntax_trees.specs.declared.limits.TheConstants.{NESTING_LIMIT}
 use Rattle.syntax_trees.specs.declared.token.Token.{Token}
-use Rattle.syntax_trees.specs.Heights.{HeightState as State, height_step as step, token_height as height, NestsBelow as Below, height_start as start, height_after as exec}
+use Rattle.syntax_trees.specs.Heights.{height_step as step, token_height as height, NestsBelow as Below, height_start as start, height_after as exec}
 use Rattle.syntax_trees.specs.Following.{TokenControl as Control, at_entry, tokens_followed as followed, token_of}
 use Rattle.syntax_trees.specs.Tokens.{first, Single, Placed, placed, span_between, AreTokens, gap, single}
 use Rattle.syntax_trees.specs.Files.{Entry, AreEntries}
 use Rattle.syntax_trees.specs.Faults.{is_opening, opens_at, begins_longer, NestsAt, IsTooDeep, IsDeepAt}
-use Rattle.syntax_trees.proofs.Shorter.{first_shrinks, after_first}
-use Rattle.syntax_trees.specs.declared.token.Token.TheVariants.{Text}
 use Rattle.syntax_trees.proofs.OneTokens.{gap_single, gap_quote, single_quote, gap_of, single_of, quote_of, quoted_too, same_single, same_text, same_inside}
 use Rattle.syntax_trees.proofs.Settled.{lexes_short, LexesToo, lexes_too, opens}
 use Rattle.syntax_trees.specs.Lexes.{Lexes, none_read, gap_then, single_then, text_then}
 use Rattle.syntax_trees.proofs.Heights.{at_place, here, opening_height}
 use Rattle.syntax_trees.proofs.HeightsTold.{nesting_exact, nesting_told}
-use Rattle.syntax_trees.proofs.NowhereDeep.{Deep, deep_front, below_at, OpensWith, with_list, with_braces, with_group, with_not, with_defined, byte_of, opening_first, at_token, lexes_onto, in_order_all}
+use Rattle.syntax_trees.proofs.NowhereDeep.{deep_front, below_at, OpensWith, with_list, with_braces, with_group, with_not, with_defined, byte_of, opening_first, at_token, lexes_onto, in_order_all}
 use Rattle.syntax_trees.proofs.WordsRead.{drop_step}
-use Rattle.syntax_trees.proofs.Following.{completion, completed}
+use Rattle.syntax_trees.proofs.Following.{completed}
 use Rattle.syntax_trees.proofs.Spelled.{completion_spelled, spells}
 
 byte_opens : {x : ℕ} {token : Token} → OpensWith x token → is_opening token ≡ true

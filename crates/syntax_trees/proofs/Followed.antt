@@ -1,6 +1,5 @@
 -- The tokens of what the grammar derives follow one another.
-use Rattle.std.proofs.Common.{◌≡◌, ℕ, Bool, true, false, List, [], ◌∷◌, refl, sym, subst, ap, ◌∙◌, map}
-use Rattle.std.specs.declared.option.Option.{Option}
+use Rattle.std.proofs.Common.{◌≡◌, ℕ, Bool, true, false, List, [], ◌∷◌, refl, ap, ◌∙◌, map}
 use Rattle.std.specs.declared.option.Option.TheVariants.{None, Some}
 use Rattle.syntax_trees.specs.declared.token.Token.{Token}
 use Rattle.syntax_trees.specs.declared.token.Token.TheVariants.{Flag, Int, Text, Plain, Scoped, Colon, OpenList, CloseList, OpenBraces, CloseBraces, OpenGroup, CloseGroup, Relation, Update, And, Or, Not, Defined}
@@ -9,11 +8,10 @@ use Rattle.syntax_trees.specs.declared.tree.EnvOp.{EnvOp}
 use Rattle.syntax_trees.specs.declared.tree.Node.{Node}
 use Rattle.syntax_trees.specs.declared.tree.Span.{Span}
 use Rattle.syntax_trees.specs.declared.tree.Value.{Value}
-use Rattle.syntax_trees.specs.Following.{ExpectedNext as Expected, AtEntry, AfterName, AfterLabel, Operand, Inside, Side, AfterPrimary, AfterBraces, ValueBracket as Within, InList, InGroup, InBraces, OpenBracket as Frame, TokenControl as Control, after_bracket, at_entry, token_follows as follow, followed_after as followed_from, tokens_followed as followed, token_of}
+use Rattle.syntax_trees.specs.Following.{ExpectedNext as Expected, AtEntry, AfterName, AfterLabel, Operand, Inside, Side, AfterPrimary, AfterBraces, ValueBracket as Within, InList, InGroup, InBraces, OpenBracket as Frame, TokenControl as Control, at_entry, token_follows as follow, followed_after as followed_from, token_of}
 use Rattle.syntax_trees.specs.Tokens.{Placed, placed}
 use Rattle.syntax_trees.specs.Grammar.{Level, ValueLevel, OrLevel, AndLevel, UnaryLevel, RelationLevel, BracedLevel, PrimaryLevel, atom_of, begins_relation, Spells, atom, list, group, bare, braced, pre_relation, alone, relation, no_prefix, negation, definedness, conjunction, disjunction, no_update, update, AreValues, no_value, value, AreConjuncts, last_conjunct, conjunct, AreDisjuncts, last_disjunct, disjunct}
 use Rattle.syntax_trees.specs.Files.{Entry, AreFields, no_field, field, AreEntries, no_entry, field_next, section_next, labelled_next}
-use Rattle.syntax_trees.proofs.Following.{close_of}
 
 abbrev mk : Expected → Bool → List Frame → Bool → Control
 mk e u fs s = record { expected = e; updated = u; frames = fs; section = s }

@@ -11,7 +11,7 @@ use Rattle.syntax_trees.specs.declared.tree.Span.{Span}
 use Rattle.syntax_trees.specs.declared.tree.Value.{Value}
 use Rattle.syntax_trees.specs.Following.{ExpectedNext as Expected, ValueBracket as Within, OpenBracket as Frame, TokenControl as Control, now_expecting as expecting, further_operand as further, operand_begun as begun, control_mapped as mapped, bracket_pushed as pushed, same_within, bracket_popped_if as popped_if, bracket_popped as popped, section_ends, closes_braces, name_begun as named, follow_atom, follow_plain, follow_text, follow_open, follow_braces, follow_close, follow_close_braces, follow_relation, follow_update, follow_connective, follow_colon, token_follows as follow, followed_after as followed_from, tokens_followed as followed, AtEntry, AfterName, AfterLabel, Operand, Inside, Side, AfterPrimary, AfterBraces, InList, InGroup, InBraces, token_of}
 use Rattle.syntax_trees.specs.Tokens.{Placed, placed}
-use Rattle.syntax_trees.specs.Grammar.{Level, ValueLevel, OrLevel, AndLevel, UnaryLevel, RelationLevel, BracedLevel, PrimaryLevel, atom_of, node, all_of, any_of, begins_relation, Spells, atom, list, group, bare, braced, pre_relation, alone, relation, no_prefix, negation, definedness, conjunction, disjunction, no_update, update, AreValues, no_value, value, AreConjuncts, last_conjunct, conjunct, AreDisjuncts, last_disjunct, disjunct}
+use Rattle.syntax_trees.specs.Grammar.{ValueLevel, UnaryLevel, BracedLevel, PrimaryLevel, atom_of, begins_relation, Spells, atom, list, group, bare, braced, pre_relation, alone, relation, no_prefix, negation, definedness, conjunction, disjunction, no_update, update, AreValues, no_value, value, last_conjunct, conjunct, AreDisjuncts, last_disjunct, disjunct}
 use Rattle.syntax_trees.specs.Files.{Entry, AreFields, no_field, field, AreEntries, no_entry, field_next, section_next, labelled_next}
 
 -- what completes a value, where something is known of what stands after it: the rest after an operand, and from an operand on

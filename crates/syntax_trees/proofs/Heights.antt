@@ -1,18 +1,17 @@
 -- How many brackets and prefix operators are open is told by the tokens so far, whatever follows them.
-use Rattle.std.proofs.Common.{◌≡◌, ℕ, ◌<◌, ◌≤◌, ◌+◌, Bool, true, false, List, [], ◌∷◌, ◌++◌, refl, sym, subst, ap, ◌∙◌, arith, max, if◌then◌else◌, ◌⊎◌, inl, inr}
-use Rattle.std.specs.Prelude.{nat_lt, ⊤, ◌==◌, ◌&&◌, ◌||◌}
+use Rattle.std.proofs.Common.{◌≡◌, ℕ, ◌<◌, ◌≤◌, ◌+◌, Bool, true, false, List, [], ◌∷◌, refl, sym, subst, ap, ◌∙◌, arith, max, if◌then◌else◌, ◌⊎◌, inl, inr}
+use Rattle.std.specs.Prelude.{nat_lt, ◌==◌, ◌&&◌, ◌||◌}
 use Rattle.std.specs.List.{list_any}
 use Rattle.std.proofs.lemmas.Bool.Decides.{nat_tests}
 use Rattle.std.specs.Option.{unwrap_or}
 use Rattle.std.specs.declared.option.Option.{Option}
 use Rattle.std.specs.declared.option.Option.TheVariants.{None, Some}
 use Rattle.syntax_trees.specs.declared.token.Token.{Token}
-use Rattle.syntax_trees.specs.declared.token.Token.TheVariants.{Flag, Int, Text, Plain, Scoped, Colon, OpenList, CloseList, OpenBraces, CloseBraces, OpenGroup, CloseGroup, Relation, Update, And, Or, Not, Defined}
-use Rattle.syntax_trees.specs.Heights.{OperandMode as Mode, Wanted, LeftRead, RightWanted, RightRead, KeptHeight as Kept, HeightState as State, operand_height as begin_at, begun_height as begin, mode_after as after, relation_height as relation_at, operand_read as read, bracket_opened as opened, bracket_closed as closed, operand_anew as anew, operand_prefixed as prefixed, relation_begun as related, height_step as step, token_height as height, NestsBelow as Below}
+use Rattle.syntax_trees.specs.declared.token.Token.TheVariants.{OpenList, OpenBraces, OpenGroup, Not, Defined}
+use Rattle.syntax_trees.specs.Heights.{HeightState as State, height_step as step, token_height as height, NestsBelow as Below}
 use Rattle.syntax_trees.specs.Tokens.{Placed, placed}
 use Rattle.syntax_trees.specs.Nesting.{first_of, deeper}
 use Rattle.syntax_trees.specs.Faults.{is_opening, opens_at}
-use Rattle.syntax_trees.specs.Grammar.{begins_relation, Level, PrimaryLevel, BracedLevel, ValueLevel, OrLevel, AndLevel, UnaryLevel, RelationLevel}
 
 pub opening_height : (s : State) (token : Token) → is_opening token ≡ true → (step s token).level ≡ height s token + 1
 opening_height s OpenList e = refl

@@ -1,6 +1,6 @@
 -- Along a derivation the tokens tell how deep its nodes are, and in what each place of them is nested.
-use Rattle.std.proofs.Common.{◌≡◌, ℕ, ◌<◌, ◌≤◌, ◌+◌, Bool, true, false, List, [], ◌∷◌, refl, sym, subst, ap, ◌∙◌, arith, map, max, if◌then◌else◌, ◌⊎◌, inl, inr}
-use Rattle.std.specs.Prelude.{nat_lt, nat_le, ⊤, ◌&&◌, ◌||◌, ◌==◌}
+use Rattle.std.proofs.Common.{◌≡◌, ℕ, ◌<◌, ◌≤◌, ◌+◌, Bool, true, false, List, [], ◌∷◌, refl, sym, subst, ap, ◌∙◌, arith, map, max, if◌then◌else◌, inl, inr}
+use Rattle.std.specs.Prelude.{⊤, ◌==◌}
 use Rattle.std.specs.List.{list_any}
 use Rattle.syntax_trees.specs.Faults.{is_opening, opens_at}
 use Rattle.std.proofs.lemmas.Bool.Decides.{nat_tests}
@@ -14,13 +14,13 @@ use Rattle.syntax_trees.specs.declared.tree.Value.{Value, roll-Value}
 use Rattle.syntax_trees.specs.declared.tree.Value.TheOpen.{Value-F}
 use Rattle.syntax_trees.specs.declared.tree.Value.TheFolds.{fold-Value, fold-roll-Node, fold-roll-Value}
 use Rattle.syntax_trees.specs.declared.limits.TheConstants.{NESTING_LIMIT}
-use Rattle.syntax_trees.specs.Heights.{OperandMode as Mode, Wanted, LeftRead, RightWanted, RightRead, HeightState as State, KeptHeight as Kept, operand_height as begin_at, begun_height as begin, mode_after as after, relation_height as relation_at, operand_read as read, bracket_opened as opened, bracket_closed as closed, operand_anew as anew, operand_prefixed as prefixed, relation_begun as related, height_step as step, token_height as height, NestsBelow as Below, height_start as start}
+use Rattle.syntax_trees.specs.Heights.{OperandMode as Mode, Wanted, LeftRead, RightWanted, RightRead, HeightState as State, operand_height as begin_at, begun_height as begin, mode_after as after, relation_height as relation_at, operand_read as read, bracket_opened as opened, bracket_closed as closed, operand_anew as anew, operand_prefixed as prefixed, relation_begun as related, height_step as step, token_height as height, NestsBelow as Below, height_start as start}
 use Rattle.syntax_trees.specs.Tokens.{Placed, placed}
 use Rattle.syntax_trees.specs.Grammar.{Level, ValueLevel, OrLevel, AndLevel, UnaryLevel, RelationLevel, BracedLevel, PrimaryLevel, atom_of, node, last_span, all_of, any_of, begins_relation, Spells, atom, list, group, bare, braced, pre_relation, alone, relation, no_prefix, negation, definedness, conjunction, disjunction, no_update, update, AreValues, no_value, value, AreConjuncts, last_conjunct, conjunct, AreDisjuncts, last_disjunct, disjunct}
 use Rattle.syntax_trees.specs.Files.{Entry, AreFields, no_field, field, AreEntries, no_entry, field_next, section_next, labelled_next}
 use Rattle.syntax_trees.specs.Nesting.{depth, most, contents_depth, AreShallow, first_of, first_among, deeper, layer_around, node_around, around, contents_around, nesting_at, is_in}
 use Rattle.syntax_trees.proofs.Folds.{node_at}
-use Rattle.syntax_trees.proofs.Depths.{depth_list, depth_group, depth_braced, depth_not, depth_defined, depth_rel, depth_pre_rel, depth_env, depth_all, depth_any, depth_atom}
+use Rattle.syntax_trees.proofs.Depths.{depth_list, depth_group, depth_braced, depth_not, depth_defined, depth_rel, depth_pre_rel, depth_env, depth_all, depth_any}
 use Rattle.syntax_trees.proofs.Shallow.{around_at, parts_around}
 use Rattle.syntax_trees.proofs.Spanned.{InOrder, lies}
 use Rattle.syntax_trees.proofs.Heights.{at_place, num, Go, GoAll, go_then, go_after, go_prefixed, go_enclosed, go_found, all_none, all_some, here, later, order, false_true, not_opening, not_there, not_equal_after}

@@ -1,5 +1,5 @@
 -- Whether a name comes twice is told by the keys and the names alone, wherever they stand.
-use Rattle.std.proofs.Common.{◌≡◌, ℕ, ◌≤◌, ◌+◌, Bool, true, false, not, ◌&&◌, ◌||◌, ◌==◌, List, [], ◌∷◌, ◌++◌, if◌then◌else◌, refl, sym, ap, ◌∙◌, arith}
+use Rattle.std.proofs.Common.{◌≡◌, ℕ, ◌≤◌, ◌+◌, Bool, true, false, not, ◌&&◌, ◌||◌, ◌==◌, List, [], ◌∷◌, ◌++◌, if◌then◌else◌, refl, sym, ◌∙◌, arith}
 use Rattle.std.specs.Prelude.{bytes_eq}
 use Rattle.std.specs.List.{list_any}
 use Rattle.std.proofs.lemmas.Bool.{eq-eqb, ne_eqb}
@@ -9,7 +9,7 @@ use Rattle.syntax_trees.specs.declared.file.Key.{Key}
 use Rattle.syntax_trees.specs.declared.tree.Node.{Node}
 use Rattle.syntax_trees.specs.Tokens.{Placed}
 use Rattle.syntax_trees.specs.Files.{Contents, FieldContents, SectionContents, Entry, AreFields, no_field, field, AreEntries, no_entry, field_next, section_next, labelled_next}
-use Rattle.syntax_trees.specs.Doubles.{Name, ItemName, FieldName, key_eq, name_eq, field_names, names, first_doubled, doubled_at}
+use Rattle.syntax_trees.specs.Doubles.{Name, ItemName, FieldName, key_eq, name_eq, field_names, names, first_doubled}
 use Rattle.syntax_trees.specs.Trees.{told_items}
 use Rattle.syntax_trees.proofs.WordsAgain.{skip}
 use Rattle.syntax_trees.proofs.Spanned.{InOrder, both, lies}
