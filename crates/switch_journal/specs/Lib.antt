@@ -11,3 +11,6 @@ pub mod Journal
 pub mod Steps
 pub mod Snapshots
 pub mod Keeping
+pub mod Found
+pub mod Walks
+pub mod Opening

@@ -6,11 +6,13 @@ ghost use Rattle.std.specs.FinMap.{get};
 ghost use Rattle.crash_disk.specs.Disks.{State};
 ghost use Rattle.crash_disk.specs.Effects.{FailsReading, OnlyReads};
 ghost use Rattle.switch_journal.specs.Gated.{TellsGated};
-ghost use Rattle.switch_journal.specs.Places.{gate_path, opens, record_path, slot_gate, slot_path};
+ghost use Rattle.switch_journal.specs.Places.{gate_path, is_open, opens, record_path, slot_gate, slot_path};
+ghost use Rattle.switch_journal.specs.Walks.{IsText};
 
 use crate::places::{gate_path_of, record_path_of, slot_gate_of, slot_path_of};
 use crash_disk::calls::read;
 use crash_disk::{Disk, DiskFault, DiskRead};
+use journal_text::RECORD_LIMIT;
 use opam_names::{Items, RelPath};
 use std::alloc::Global;
 
@@ -92,4 +94,38 @@ pub fn read_slot<D: Disk>(
     let gate = slot_gate_of(alloc, slot)?;
     let path = slot_path_of(alloc, slot)?;
     read_gated(disk, alloc, &gate, &path, limit)
+}
+
+/// Whether the gate of the record with this number is open.
+pub(crate) fn is_record_open<D: Disk>(
+    disk: &mut D,
+    alloc: Global,
+    number: u64,
+) -> Result<bool, DiskFault>
+    ensures cause { FailsReading D.Disk disk.old disk.new result }
+    ensures reads { OnlyReads D.Disk disk.old disk.new }
+    ensures told { (s : State) → D.told disk.old ≡ Some s
+        → IfOk result (λ is. is ≡ is_open number s.files) }
+{
+    let gate = gate_path_of(alloc, number)?;
+    is_gate_open(disk, alloc, &gate)
+}
+
+/// The bytes of the record with this number; None where it is absent or too long. Its gate is not looked at.
+pub(crate) fn read_record_text<D: Disk>(
+    disk: &mut D,
+    alloc: Global,
+    number: u64,
+) -> Result<Option<Items<u8>>, DiskFault>
+    ensures cause { FailsReading D.Disk disk.old disk.new result }
+    ensures reads { OnlyReads D.Disk disk.old disk.new }
+    ensures told { (s : State) → D.told disk.old ≡ Some s
+        → IfOk result (IsText (get s.files (record_path number))) }
+{
+    let path = record_path_of(alloc, number)?;
+    match read(disk, alloc, &path, RECORD_LIMIT as u64)? {
+        DiskRead::Absent => Ok(None),
+        DiskRead::TooLong => Ok(None),
+        DiskRead::File { bytes, .. } => Ok(Some(bytes)),
+    }
 }

@@ -18,7 +18,7 @@ use outside_io::Failed;
 use std::alloc::Global;
 
 // No record has this number or a greater one.
-const NUMBER_LIMIT: u64 = 9_223_372_036_854_775_808;
+pub(crate) const NUMBER_LIMIT: u64 = 9_223_372_036_854_775_808;
 
 impl Journal {
     /// Makes the record ready for its commit under the next number. Where it removes a package, `takes` are the paths that this
@@ -59,7 +59,8 @@ impl Journal {
     }
 }
 
-fn work_writes(
+// A record's work, with these paths if it takes any away.
+pub(crate) fn work_writes(
     alloc: Global,
     entry: Rec,
     takes: Items<RelPath>,
