@@ -1,6 +1,6 @@
 -- A walk over the records, number by number.
 use Rattle.std.proofs.Common.{◌≡◌, ◌∙◌, ℕ, ◌+◌, ◌<◌, ◌≤◌, ◌^◌, List, [], length, Bool, true, false, IsTrue, IsFalse, refl, sym, subst, ap, arith, slice_index_or, ◌==◌, Option, Some, None}
-use Rattle.std.specs.Prelude.{IfSome, IfNone}
+use Rattle.std.specs.Prelude.{IfSome, IfNone, is_some}
 use Rattle.std.specs.FinMap.{get}
 use Rattle.std.specs.Option.{option_map}
 use Rattle.crash_disk.specs.Disks.{Tree}
@@ -113,6 +113,24 @@ first_entry law text old entry found c none is said work = record {
   step = subst (λ (x : Contents). IsStepText old 1 x text found) none (entry_steps law old 1 c text entry found is.entry said work);
 }
 
+-- where the bytes spell no record that is written
+format_by : (text : List ℕ) (found : Option Rec) → IfSome found (λ entry. IsOldSpelledBy entry text) → IfNone found (SpellNoOldRecord text) → IsFormatOf text (is_some found)
+format_by text None some none = none
+format_by text (Some entry) some none = (entry, some)
+
+entry_by : (text : List ℕ) (found : Option Rec) → IfSome found (λ entry. IsOldSpelledBy entry text) → SpellNoRecord text → IsEntry text (is_some found) found
+entry_by text None some gone = gone
+entry_by text (Some entry) some gone = some
+
+pub spelled_old : (text given : List ℕ) (old : Bool) (found : Option Rec) → given ≡ text → old ≡ is_some found → SpellNoRecord text → IfSome found (λ entry. IsOldSpelledBy entry given) → IfNone found (SpellNoOldRecord given) → IsSpelled text old found
+spelled_old text given old found same is gone some none =
+    let here : IfSome found (λ entry. IsOldSpelledBy entry text) = subst (λ (t : List ℕ). IfSome found (λ entry. IsOldSpelledBy entry t)) same some in
+    subst (λ (b : Bool). IsSpelled text b found) (sym is)
+    (record { format = format_by text found here (subst (λ (t : List ℕ). IfNone found (SpellNoOldRecord t)) same none); entry = entry_by text found here gone })
+
+pub spelled_new : (text : List ℕ) (entry : Rec) → IsSpelledBy entry text → IsSpelled text false (Some entry)
+spelled_new text entry spells = record { format = not_old entry text spells; entry = spells }
+
 pub first_none : (text : List ℕ) (old : Bool) → IsSpelled text old None → IsFirstText text (record { old = old; step = None })
 first_none text old is = record { format = is.format; step = none_steps old 1 empty_contents text is.entry }
 
@@ -152,13 +170,13 @@ all_on tree old walk opened is w more = by w (turn_on old tree 1 (record { kept 
   where
     by : (w : Walked) → IsWalked old tree 1 empty_contents [] w → IsWalkedAfter tree None w
     by (walked.Bad number) counts = (old, is.format opened, counts)
-    by (walked.Whole format next last) counts = (subst (IsOld tree None) (sym counts.0) (is.format opened), counts.1)
+    by (walked.Whole format next last) counts = (subst (IsOld tree None) (sym counts.0) (is.format opened), subst (λ (b : Bool). CountsTo b tree 1 empty_contents [] next last.kept last.work) (sym counts.0) counts.1)
 
 pub after_slot : (tree : Tree) (found : FoundSlot) (start : Contents) (work : List Write) → start ≡ first_contents (Some found) → work ≡ [] → (w : Walked) → IsWalked found.old tree (found.slot.number + 1) start work w → IsWalkedAfter tree (Some found) w
 after_slot tree found start work same none (walked.Bad number) counts =
     (found.old, refl, subst (λ (c : Contents). Counts found.old tree (found.slot.number + 1) c (BadAt (record_path number))) same counts)
-after_slot tree found start work same none (walked.Whole format next last) counts = (
-  sym counts.0,
-  subst (λ (w : List Write). CountsTo found.old tree (found.slot.number + 1) (first_contents (Some found)) w next last.kept last.work) none
-      (subst (λ (c : Contents). CountsTo found.old tree (found.slot.number + 1) c work next last.kept last.work) same counts.1),
-)
+after_slot tree found start work same none (walked.Whole format next last) counts =
+    let here : CountsTo found.old tree (found.slot.number + 1) (first_contents (Some found)) [] next last.kept last.work =
+    subst (λ (w : List Write). CountsTo found.old tree (found.slot.number + 1) (first_contents (Some found)) w next last.kept last.work) none
+    (subst (λ (c : Contents). CountsTo found.old tree (found.slot.number + 1) c work next last.kept last.work) same counts.1) in
+    (sym counts.0, subst (λ (b : Bool). CountsTo b tree (found.slot.number + 1) (first_contents (Some found)) [] next last.kept last.work) (sym counts.0) here)

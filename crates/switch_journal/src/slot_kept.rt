@@ -12,7 +12,7 @@ use crate::places::slot_path_of;
 use crate::standing::Standing;
 use journal_text::{Entry, Owned, Snapshot};
 use opam_names::{Items, Name, OutOfMemory};
-use owner_map::{Owners, additions_are_met};
+use owner_map::Owners;
 use std::alloc::Global;
 
 impl Kept {
@@ -68,7 +68,6 @@ fn owners_of(alloc: Global, entries: &[Entry], owned: Items<Owned>) -> Result<Ow
     requires among { list_all (has_owner (length entries.now)) owned ≡ true }
     ensures { IfOk result (λ owners. owners.owned ≡ filter_map (owned_with entries.now) owned) }
 {
-    additions_are_met();
     let mut owners = Owners::empty(alloc);
     owners.reserve(owned.len())?;
     for one in owned.into_vec() {

@@ -50,6 +50,13 @@ pub(crate) struct First {
     pub(crate) step: Option<Walk>,
 }
 
+// Of which format bytes are, and the record that they spell.
+#[derive(Drop)]
+pub(crate) struct Spelled {
+    pub(crate) old: bool,
+    pub(crate) entry: Option<Rec>,
+}
+
 impl Kept {
     // The paths that the record takes away.
     fn taken_by(&self, alloc: Global, entry: &Rec) -> Result<Items<RelPath>, OutOfMemory>
@@ -228,15 +235,19 @@ fn walk_from<D: Disk>(
 }
 
 // Of which format the bytes are, and the record that they spell.
-fn decode_first(alloc: Global, bytes: Items<u8>) -> Result<(bool, Option<Rec>), OutOfMemory>
-    ensures { IfOk result (λ found. IsSpelled bytes found.0 found.1) }
+fn decode_first(alloc: Global, bytes: Items<u8>) -> Result<Spelled, OutOfMemory>
+    ensures { IfOk result (λ found. IsSpelled bytes found.old found.entry) }
 {
     match decode(alloc, bytes.as_slice())? {
-        Some(entry) => Ok((false, Some(entry))),
-        None => match decode_old(alloc, bytes.as_slice())? {
-            Some(entry) => Ok((true, Some(entry))),
-            None => Ok((false, None)),
-        },
+        Some(entry) => Ok(Spelled {
+            old: false,
+            entry: Some(entry),
+        }),
+        None => {
+            let entry = decode_old(alloc, bytes.as_slice())?;
+            let old = entry.is_some();
+            Ok(Spelled { old, entry })
+        }
     }
 }
 
@@ -244,9 +255,10 @@ fn first_text(alloc: Global, bytes: Items<u8>) -> Result<First, OutOfMemory>
     ensures { IfOk result (IsFirstText bytes) }
 {
     one_record_for_bytes();
-    match decode_first(alloc, bytes)? {
-        (old, None) => Ok(First { old, step: None }),
-        (old, Some(entry)) => {
+    let Spelled { old, entry } = decode_first(alloc, bytes)?;
+    match entry {
+        None => Ok(First { old, step: None }),
+        Some(entry) => {
             let step = apply_entry(alloc, old, 1, Kept::empty(alloc), entry)?;
             Ok(First { old, step })
         }
