@@ -162,14 +162,15 @@ all_shut tree walk shut kept work = (
       (subst (λ (c : Contents). CountsTo false tree 1 empty_contents [] 1 c []) (sym kept) (journal.no_more shut)),
 )
 
-pub all_bad : (tree : Tree) (old : Bool) → IsTrue (is_open 1 tree) → IsFirst tree (record { old = old; step = None }) → IsWalkedAfter tree None (walked.Bad 1)
-all_bad tree old opened is = (old, is.format opened, reading.bad opened is.step)
+pub all_bad : (tree : Tree) (first : First) → IsTrue (is_open 1 tree) → first.step ≡ None → IsFirst tree first → IsWalkedAfter tree None (walked.Bad 1)
+all_bad tree first opened none is = (first.old, is.format opened, reading.bad opened (subst (IsStep first.old tree 1 empty_contents) none is.step))
 
-pub all_on : (tree : Tree) (old : Bool) (walk : Walk) → IsTrue (is_open 1 tree) → IsFirst tree (record { old = old; step = Some walk }) → (w : Walked) → IsWalked old tree 2 walk.kept walk.work w → IsWalkedAfter tree None w
-all_on tree old walk opened is w more = by w (turn_on old tree 1 (record { kept = empty_contents; work = [] }) walk (opened, is.step) w more)
+pub all_on : (tree : Tree) (first : First) (walk : Walk) → IsTrue (is_open 1 tree) → first.step ≡ Some walk → IsFirst tree first → (w : Walked) → IsWalked first.old tree 2 walk.kept walk.work w → IsWalkedAfter tree None w
+all_on tree first walk opened some is w more =
+    by w (turn_on first.old tree 1 (record { kept = empty_contents; work = [] }) walk (opened, subst (IsStep first.old tree 1 empty_contents) some is.step) w more)
   where
-    by : (w : Walked) → IsWalked old tree 1 empty_contents [] w → IsWalkedAfter tree None w
-    by (walked.Bad number) counts = (old, is.format opened, counts)
+    by : (w : Walked) → IsWalked first.old tree 1 empty_contents [] w → IsWalkedAfter tree None w
+    by (walked.Bad number) counts = (first.old, is.format opened, counts)
     by (walked.Whole format next last) counts = (subst (IsOld tree None) (sym counts.0) (is.format opened), subst (λ (b : Bool). CountsTo b tree 1 empty_contents [] next last.kept last.work) (sym counts.0) counts.1)
 
 pub after_slot : (tree : Tree) (found : FoundSlot) (start : Contents) (work : List Write) → start ≡ first_contents (Some found) → work ≡ [] → (w : Walked) → IsWalked found.old tree (found.slot.number + 1) start work w → IsWalkedAfter tree (Some found) w

@@ -295,12 +295,10 @@ fn walk_all<D: Disk>(disk: &mut D, alloc: Global) -> Result<Walked, DiskFault>
             walk: start_with(alloc, Kept::empty(alloc)),
         });
     }
-    match first_step(disk, alloc)? {
-        First { step: None, .. } => Ok(Walked::Bad { number: 1 }),
-        First {
-            old,
-            step: Some(walk),
-        } => walk_from(disk, alloc, old, 2, walk),
+    let First { old, step } = first_step(disk, alloc)?;
+    match step {
+        None => Ok(Walked::Bad { number: 1 }),
+        Some(walk) => walk_from(disk, alloc, old, 2, walk),
     }
 }
 
