@@ -1,5 +1,5 @@
 -- The opening of a journal: what it makes of a disk, and what a stop leaves of it. This project's own.
-use Rattle.std.specs.Prelude.{◌≡◌, ◌⊎◌, ◌≤◌, ℕ, List, [], Bool, true, false, IsTrue, Result, Ok, Err, OnOk}
+use Rattle.std.specs.Prelude.{◌≡◌, ◌⊎◌, ◌≤◌, ℕ, List, [], Bool, true, false, IsTrue, Result, Ok, Err, IfOk}
 use Rattle.std.specs.List.{list_all}
 use Rattle.std.specs.Option.{option_map}
 use Rattle.std.specs.declared.option.Option.{Option}
@@ -77,7 +77,7 @@ pub record TouchesLast {D : Type 0} (g : Ghosts D) (tree : Tree) (old new : D) :
 
 -- an opening of a disk that told this before its sync
 pub record Opening {D : Type 0} (g : Ghosts D) (s : State) (old new : D) (result : Result (Head × Contents) OpenFault) : Type 0 where
-  pub opens : OnOk result (λ both. OpensAs both.0 both.1 s.files (g.told new))
+  pub opens : IfOk result (λ both. OpensAs both.0 both.1 s.files (g.told new))
   pub bad : IsNamed result s.files
   pub crash : StopsLeave g (IsWhileOpening s) old new
   pub touches : TouchesLast g s.files old new

@@ -1,7 +1,7 @@
 // The opening of a journal: all that was written is made durable, the files are read, and the last record's work is done again.
 #![tactic(auto, using(crash_disk::proofs::Effects::read_steps))]
 
-ghost use Rattle.std.specs.Prelude.{◌≡◌, ◌≤◌, ◌^◌, false, true, IfOk, IfSome, OnOk};
+ghost use Rattle.std.specs.Prelude.{◌≡◌, ◌≤◌, ◌^◌, false, true, IfOk, IfSome};
 ghost use Rattle.std.specs.Option.{option_map};
 ghost use Rattle.std.specs.declared.option.Option.TheVariants.{Some};
 ghost use Rattle.crash_disk.specs.Disks.{State, Tree};
@@ -199,7 +199,7 @@ impl Journal {
         ensures cause { FailsOpening D.Disk disk.old disk.new result }
         // Journal and contents are those of the files, nothing is loose, and the last record's work is done.
         ensures opens { (s : State) → D.told disk.old ≡ Some s
-            → OnOk result (λ both. OpensAs both.0 both.1 s.files (D.told disk.new)) }
+            → IfOk result (λ both. OpensAs both.0 both.1 s.files (D.told disk.new)) }
         // The files are no journal, and this is the first bad one.
         ensures bad { (s : State) → D.told disk.old ≡ Some s → IsNamed result s.files }
         // Whenever the machine stops, an opening makes the same of the disk. Where paths were loose, a stop may leave what one
