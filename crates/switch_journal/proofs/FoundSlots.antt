@@ -1,12 +1,12 @@
 -- A slot that is found in its place, by the bytes that stand there.
-use Rattle.std.proofs.Common.{◌≡◌, ◌∙◌, inl, inr, ℕ, suc, ◌<◌, ◌≤◌, ◌^◌, List, [], ◌∷◌, length, map, slice_get, Bool, true, false, IsTrue, IsFalse, refl, sym, subst, ap, arith, Option, Some, None, if◌then◌else◌}
-use Rattle.std.specs.Prelude.{nat_le, nat_lt, ◌&&◌, Result, Ok, Err, IfOk, IfNone, IfSome}
+use Rattle.std.proofs.Common.{◌≡◌, ◌∙◌, ℕ, suc, ◌<◌, ◌≤◌, ◌^◌, List, [], ◌∷◌, length, map, slice_get, Bool, true, false, refl, sym, subst, ap, arith, Option, Some, None, if◌then◌else◌}
+use Rattle.std.specs.Prelude.{nat_le, nat_lt, ◌&&◌}
 use Rattle.std.specs.FinMap.{get}
 use Rattle.std.specs.List.{cons_option, filter_map, list_all}
 use Rattle.std.specs.Option.{option_map}
 use Rattle.std.proofs.lemmas.Bool.{and_from, and_parts, false≢true, lt-ltb, ltb-true}
 use Rattle.std.proofs.lemmas.Option.{slice_get-get_or}
-use Rattle.crash_disk.specs.Disks.{Kept, State, Tree}
+use Rattle.crash_disk.specs.Disks.{Kept, Tree}
 use Rattle.journal_text.specs.Laws.{OneSlotForBytes}
 use Rattle.journal_text.specs.Slots.{IsSlotInOrder, SpellNoOldSlot, SpellNoSlot, has_owner}
 use Rattle.journal_text.specs.declared.record.Entry.{Entry}
@@ -14,12 +14,12 @@ use Rattle.journal_text.specs.declared.slot.Owned.{Owned}
 use Rattle.journal_text.specs.declared.slot.Snapshot.{Snapshot}
 use Rattle.journal_text.specs.declared.slot.TheConstants.{SLOT_LIMIT}
 use Rattle.owner_map.specs.Owning.{owned_by}
-use Rattle.switch_journal.specs.Applying.{are_few, are_few_paths}
+use Rattle.switch_journal.specs.Applying.{are_few}
 use Rattle.switch_journal.specs.Contents.{entry_of}
-use Rattle.switch_journal.specs.Found.{IsFit, IsFitSlot, IsSlotRead, IsSlotText, few_in, found_of, is_within, limited, not_spelled, spelled}
-use Rattle.switch_journal.specs.Gated.{IsBehind, IsGated}
+use Rattle.switch_journal.specs.Found.{IsFit, IsSlotRead, IsSlotText, few_in, is_within, limited, not_spelled, spelled}
+use Rattle.switch_journal.specs.Gated.{IsBehind}
 use Rattle.switch_journal.specs.Places.{opens, slot_gate, slot_path, text_of}
-use Rattle.switch_journal.specs.Reading.{FoundSlot, HasSlot, IsSlotBad, SlotIs, SpellsSlot, is_found, is_shut, is_small, owned_with, slot_contents, standing_of}
+use Rattle.switch_journal.specs.Reading.{IsSlotBad, SpellsSlot, is_found, is_shut, is_small, owned_with, slot_contents, standing_of}
 use Rattle.switch_journal.specs.Texts.{slot_at}
 use Rattle.switch_journal.specs.declared.gated.Gated.TheVariants as found
 use Rattle.switch_journal.specs.declared.request.TheConstants.{OWNED_LIMIT}

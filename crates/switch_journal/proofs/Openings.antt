@@ -1,10 +1,9 @@
 -- What the opening of a journal makes of a disk.
-use Rattle.std.proofs.Common.{◌≡◌, ◌∙◌, inl, inr, ℕ, ◌+◌, ◌≤◌, List, [], Bool, true, false, IsTrue, refl, sym, subst, ap, arith, Option, Some, None, Result, Ok, Err, OnOk, if◌then◌else◌}
+use Rattle.std.proofs.Common.{◌≡◌, ◌∙◌, inl, inr, ℕ, List, [], Bool, true, false, refl, sym, subst, ap, arith, Option, Some, None, Result, Ok, Err, OnOk, if◌then◌else◌}
 use Rattle.std.specs.Prelude.{is_some}
 use Rattle.std.specs.Option.{option_map}
-use Rattle.outside_io.specs.Counts.{Rose}
 use Rattle.crash_disk.specs.Disks.{State, Tree}
-use Rattle.crash_disk.specs.Effects.{Leaves, OnlyReads, Touches, at_rest, unchanged}
+use Rattle.crash_disk.specs.Effects.{Advances, Leaves, OnlyReads, Touches, at_rest, unchanged}
 use Rattle.crash_disk.specs.Stops.{IsSameBut, StopsLeave}
 use Rattle.crash_disk.specs.Writes.{paths_of, with_writes}
 use Rattle.crash_disk.specs.declared.batch.Write.{Write}
@@ -13,10 +12,10 @@ use Rattle.crash_disk.proofs.Effects.{touches_more, touches_reading, touches_the
 use Rattle.crash_disk.proofs.Stops.{NowIs, leaves_at, rests_then, stops_by, stops_off, stops_then}
 use Rattle.switch_journal.specs.Contents.{Contents}
 use Rattle.switch_journal.specs.Found.{counting_of, found_of}
-use Rattle.switch_journal.specs.Journal.{Head, IsReadAt, StandsFor}
-use Rattle.switch_journal.specs.Opening.{CountedOpening, CountsFault, FailsOpening, IsNamed, IsOpened, IsWhileOpening, OpenAlike, Opening, OpensAs, TouchesLast, begun_with, opened_of}
-use Rattle.switch_journal.specs.Reading.{BadAt, FoundSlot, IsSlotBad, Outcome, Reads, SlotIs, at_end, counting, first_slot_bad, read, second_counts, second_slot_bad}
-use Rattle.switch_journal.specs.Texts.{IsReadAs, Journal}
+use Rattle.switch_journal.specs.Journal.{Head, IsReadAt}
+use Rattle.switch_journal.specs.Opening.{CountedOpening, CountsFault, IsNamed, IsOpened, IsWhileOpening, OpenAlike, Opening, TouchesLast, begun_with, opened_of}
+use Rattle.switch_journal.specs.Reading.{BadAt, FoundSlot, Reads, SlotIs, at_end, counting, read, second_counts}
+use Rattle.switch_journal.specs.Texts.{IsReadAs}
 use Rattle.switch_journal.specs.Walks.{IsWalkedAfter}
 use Rattle.switch_journal.specs.declared.fault.OpenFault.{OpenFault}
 use Rattle.switch_journal.specs.declared.fault.OpenFault.TheVariants as fault
@@ -97,9 +96,6 @@ module _ {D : Type 0} (g : Ghosts D) (now_is : NowIs g) (s : State) where
     redo_stops : StopsLeave g (IsWhileOpening s) a b
     redo_stops = stops_by now_is (IsWhileOpening s) (paths_of work) s.files is touches (λ image same. inr (alike r image same))
 
-    redo_touches : TouchesLast g s.files a b
-    redo_touches = record { work = work; is = inr (head, c, r); outside = work_outside r; touches = touches }
-
     pub redone : Leaves g (with_writes work) a b → Opening g s a b (Ok (head, c))
     redone leaves =
         let files = with_writes work s.files in
@@ -112,52 +108,63 @@ module _ {D : Type 0} (g : Ghosts D) (now_is : NowIs g) (s : State) where
           };
           bad = tt;
           crash = redo_stops;
-          touches = redo_touches;
         }
 
     pub redo_failed : Opening g s a b (Err fault.DiskFailed)
-    redo_failed = record { opens = tt; bad = tt; crash = redo_stops; touches = redo_touches }
+    redo_failed = record { opens = tt; bad = tt; crash = redo_stops }
 
   -- nothing was touched
   read_stops : {a b : D} → g.told a ≡ Some (at_rest s.files) → OnlyReads g a b → StopsLeave g (IsWhileOpening s) a b
   read_stops is reads = stops_by now_is (IsWhileOpening s) [] s.files is (touches_reading [] reads) (λ image same. inl (λ q firm. same q refl))
 
-  none_touched : {a b : D} → Touches g [] a b → TouchesLast g s.files a b
-  none_touched touches = record { work = []; is = inl refl; outside = refl; touches = touches }
-
   pub only_read : {a b : D} (result : Result (Head × Contents) OpenFault) → OnOk result ⊥ → IsNamed result s.files → g.told a ≡ Some (at_rest s.files) → OnlyReads g a b → Opening g s a b result
   only_read (Ok both) none named is reads = absurd none
-  only_read (Err fault) none named is reads = record { opens = tt; bad = named; crash = read_stops is reads; touches = none_touched (touches_reading [] reads) }
+  only_read (Err fault) none named is reads = record { opens = tt; bad = named; crash = read_stops is reads }
 
   -- what follows on calls that touch nothing
-  then_opened : {a b c : D} {result : Result (Head × Contents) OpenFault} → Touches g [] a b → StopsLeave g (IsWhileOpening s) a b → Opening g s b c result → Opening g s a c result
-  then_opened before stops opening = record {
-    opens = opening.opens;
-    bad = opening.bad;
-    crash = stops_then before.goes opening.touches.touches.goes stops opening.crash;
-    touches = record {
-      work = opening.touches.work;
-      is = opening.touches.is;
-      outside = opening.touches.outside;
-      touches = touches_then (touches_more (λ q is. absurd (cc)) before) opening.touches.touches;
-    };
-  }
+  then_opened : {a b c : D} {result : Result (Head × Contents) OpenFault} → Advances g a b → Advances g b c → StopsLeave g (IsWhileOpening s) a b → Opening g s b c result → Opening g s a c result
+  then_opened before goes stops opening = record { opens = opening.opens; bad = opening.bad; crash = stops_then before goes stops opening.crash }
 
-  pub read_then : {a b c : D} {result : Result (Head × Contents) OpenFault} → g.told a ≡ Some (at_rest s.files) → OnlyReads g a b → Opening g s b c result → Opening g s a c result
-  read_then is reads opening = then_opened (touches_reading [] reads) (read_stops is reads) opening
+  pub read_then : {a b c : D} {result : Result (Head × Contents) OpenFault} → g.told a ≡ Some (at_rest s.files) → OnlyReads g a b → Advances g b c → Opening g s b c result → Opening g s a c result
+  read_then is reads goes opening = then_opened reads.goes goes (read_stops is reads) opening
 
   -- the first sync
   sync_stops : {a b : D} → g.told a ≡ Some s → Touches g [] a b → StopsLeave g (IsWhileOpening s) a b
   sync_stops is touches = stops_off now_is (IsWhileOpening s) [] s is touches (λ image off. inl (λ q firm. off q refl firm))
 
   pub sync_failed : {a b : D} → g.told a ≡ Some s → Touches g [] a b → Opening g s a b (Err fault.DiskFailed)
-  sync_failed is touches = record { opens = tt; bad = tt; crash = sync_stops is touches; touches = none_touched touches }
+  sync_failed is touches = record { opens = tt; bad = tt; crash = sync_stops is touches }
 
-  pub sync_then : {a b c : D} {result : Result (Head × Contents) OpenFault} → g.told a ≡ Some s → Touches g [] a b → Opening g s b c result → Opening g s a c result
-  sync_then is touches opening = then_opened touches (sync_stops is touches) opening
+  pub sync_then : {a b c : D} {result : Result (Head × Contents) OpenFault} → g.told a ≡ Some s → Touches g [] a b → Advances g b c → Opening g s b c result → Opening g s a c result
+  sync_then is touches goes opening = then_opened touches.goes goes (sync_stops is touches) opening
 
   pub told_then : {a b : D} → g.told a ≡ Some s → Leaves g unchanged a b → g.told b ≡ Some (at_rest s.files)
   told_then {a} {b} is leaves = rests_then g unchanged a b s leaves is
+
+-- ---- what is touched
+
+module _ {D : Type 0} {g : Ghosts D} where
+  pub none_touched : {a b : D} → Touches g [] a b → TouchesLast g a b
+  none_touched touches = record { work = []; touches = touches; last = λ s is. inl refl; outside = λ s is. refl }
+
+  pub only_read_touched : {a b : D} → OnlyReads g a b → TouchesLast g a b
+  only_read_touched reads = none_touched (touches_reading [] reads)
+
+  pub read_touched : {a b c : D} {work : List Write} (head : Head) (said : Contents) → OnlyReads g a b → Touches g (paths_of work) b c → ((s : State) → g.told a ≡ Some s → IsReadAt head said work s.files) → TouchesLast g a c
+  read_touched {work = work} head said reads touches is = record {
+    work = work;
+    touches = touches_then (touches_reading (paths_of work) reads) touches;
+    last = λ s told. inr (head, said, is s told);
+    outside = λ s told. work_outside (is s told);
+  }
+
+  pub sync_touched : {a b c : D} → Touches g [] a b → Leaves g unchanged a b → TouchesLast g b c → TouchesLast g a c
+  sync_touched {a} {b} before leaves more = record {
+    work = more.work;
+    touches = touches_then (touches_more (λ q is. absurd (cc)) before) more.touches;
+    last = λ s told. more.last (at_rest s.files) (rests_then g unchanged a b s leaves told);
+    outside = λ s told. more.outside (at_rest s.files) (rests_then g unchanged a b s leaves told);
+  }
 
 -- ---- the count
 

@@ -7,7 +7,6 @@ use Rattle.crash_disk.specs.Disks.{Tree}
 use Rattle.crash_disk.specs.declared.batch.Write.{Write}
 use Rattle.journal_text.specs.Laws.{OneRecordForBytes}
 use Rattle.journal_text.specs.Records.{IsInOrder, IsOldSpelledBy, IsSpelledBy, SpellNoOldRecord, SpellNoRecord, old_bytes}
-use Rattle.journal_text.specs.declared.record.KeptFiles.{KeptFiles}
 use Rattle.journal_text.specs.declared.record.Rec.{Rec}
 use Rattle.journal_text.specs.declared.record.Rec.TheVariants.{Install, PutBack, Remove, Begin, End}
 use Rattle.journal_text.specs.declared.record.TheConstants.{RECORD_LIMIT}
@@ -19,7 +18,6 @@ use Rattle.switch_journal.specs.Reading as reading
 use Rattle.switch_journal.specs.Reading.{Applies, BadAt, BeginsOld, Counts, FoundSlot, IsOld, SpellsRecord, after_record, empty_contents, first_contents, first_number}
 use Rattle.switch_journal.specs.Walks.{IsEntry, IsFirst, IsFirstText, IsFormatOf, IsSpelled, IsStep, IsStepText, IsText, IsTurn, IsWalked, IsWalkedAfter, SpellsNone, said_of, taken_by}
 use Rattle.switch_journal.specs.declared.walk.First.{First}
-use Rattle.switch_journal.specs.declared.walk.Turn.{Turn}
 use Rattle.switch_journal.specs.declared.walk.Turn.TheVariants as turn
 use Rattle.switch_journal.specs.declared.walk.Walk.{Walk}
 use Rattle.switch_journal.specs.declared.walk.Walked.{Walked}

@@ -1,5 +1,5 @@
 -- What is found in the places of the slots. This module is for private clauses. This project's own.
-use Rattle.std.specs.Prelude.{◌≡◌, ◌<◌, ◌^◌, ℕ, List, Bool, length, nat_le, nat_lt, ◌&&◌, IsTrue, IfSome, if◌then◌else◌}
+use Rattle.std.specs.Prelude.{◌<◌, ◌^◌, ℕ, List, Bool, length, nat_le, nat_lt, ◌&&◌, IsTrue, IfSome, if◌then◌else◌}
 use Rattle.std.specs.Option.{option_map}
 use Rattle.std.specs.declared.option.Option.{Option}
 use Rattle.std.specs.declared.option.Option.TheVariants.{None, Some}

@@ -1,8 +1,9 @@
 -- The opening of a journal: what it makes of a disk, and what a stop leaves of it. This project's own.
-use Rattle.std.specs.Prelude.{◌≡◌, ◌⊎◌, ◌≤◌, ℕ, List, [], Bool, true, false, IsTrue, Result, Ok, Err, IfOk}
+use Rattle.std.specs.Prelude.{◌≡◌, ◌⊎◌, ◌≤◌, ℕ, List, [], Bool, false, IsTrue, Result, Ok, Err, IfOk}
 use Rattle.std.specs.List.{list_all}
 use Rattle.std.specs.Option.{option_map}
 use Rattle.std.specs.declared.option.Option.{Option}
+use Rattle.std.specs.declared.option.Option.TheVariants.{Some}
 use Rattle.crash_disk.specs.Disks.{IsImage, State, Tree}
 use Rattle.crash_disk.specs.Effects.{Touches}
 use Rattle.crash_disk.specs.Stops.{StopsLeave}
@@ -66,12 +67,13 @@ IsWhileOpening s image = IsImage s image ⊎ OpenAlike s.files image
 abbrev pub IsLastWork : Tree → List Write → Type 0
 IsLastWork tree work = (work ≡ []) ⊎ ((head : Head) × (c : Contents) × IsReadAt head c work tree)
 
--- only the paths of that work are touched, and they lie outside of the journal
-pub record TouchesLast {D : Type 0} (g : Ghosts D) (tree : Tree) (old new : D) : Type 0 where
+-- only the paths of this work are touched; where the disk tells its files, it is no work or that of their last counted record, and
+-- its paths lie outside of the journal
+pub record TouchesLast {D : Type 0} (g : Ghosts D) (old new : D) : Type 0 where
   pub work : List Write
-  pub is : IsLastWork tree work
-  pub outside : IsTrue (list_all is_outside work)
   pub touches : Touches g (paths_of work) old new
+  pub last : (s : State) → g.told old ≡ Some s → IsLastWork s.files work
+  pub outside : (s : State) → g.told old ≡ Some s → IsTrue (list_all is_outside work)
 
 -- ---- for private clauses
 
@@ -80,7 +82,6 @@ pub record Opening {D : Type 0} (g : Ghosts D) (s : State) (old new : D) (result
   pub opens : IfOk result (λ both. OpensAs both.0 both.1 s.files (g.told new))
   pub bad : IsNamed result s.files
   pub crash : StopsLeave g (IsWhileOpening s) old new
-  pub touches : TouchesLast g s.files old new
 
 -- a journal before its records are counted
 abbrev pub begun_with : Option FoundSlot → Bool → Bool → Head

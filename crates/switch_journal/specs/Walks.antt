@@ -1,11 +1,10 @@
 -- What a walk over the records gives, step by step. This module is for private clauses. This project's own.
-use Rattle.std.specs.Prelude.{◌≡◌, ◌+◌, ◌<◌, ◌≤◌, ◌^◌, ℕ, List, [], length, Bool, true, false, IsTrue, IsFalse}
-use Rattle.std.specs.FinMap.{get}
+use Rattle.std.specs.Prelude.{◌≡◌, ◌<◌, ◌≤◌, ◌^◌, ℕ, List, [], length, Bool, true, false, IsTrue, IsFalse}
 use Rattle.std.specs.declared.option.Option.{Option}
 use Rattle.std.specs.declared.option.Option.TheVariants.{None, Some}
-use Rattle.crash_disk.specs.Disks.{Kept, State, Tree}
+use Rattle.crash_disk.specs.Disks.{Kept, Tree}
 use Rattle.crash_disk.specs.declared.batch.Write.{Write}
-use Rattle.journal_text.specs.Records.{IsOldSpelledBy, IsSpelledBy}
+use Rattle.journal_text.specs.Records.{IsOldSpelledBy}
 use Rattle.journal_text.specs.declared.record.Rec.{Rec}
 use Rattle.journal_text.specs.declared.record.Rec.TheVariants.{Install, PutBack, Remove, Begin, End}
 use Rattle.journal_text.specs.declared.record.TheConstants.{RECORD_LIMIT}

@@ -5,8 +5,9 @@ ghost use Rattle.std.specs.Prelude.{◌≡◌, ◌≤◌, ◌^◌, false, true, 
 ghost use Rattle.std.specs.Option.{option_map};
 ghost use Rattle.std.specs.declared.option.Option.TheVariants.{Some};
 ghost use Rattle.crash_disk.specs.Disks.{State, Tree};
-ghost use Rattle.crash_disk.specs.Effects.{FailsReading, OnlyReads, at_rest};
+ghost use Rattle.crash_disk.specs.Effects.{FailsReading, OnlyReads, Touches, at_rest};
 ghost use Rattle.crash_disk.specs.Stops.{StopsLeave};
+ghost use Rattle.crash_disk.specs.Writes.{paths_of};
 ghost use Rattle.switch_journal.specs.Found.{IsFitSlot, found_of};
 ghost use Rattle.switch_journal.specs.Journal.{IsReadAt};
 ghost use Rattle.switch_journal.specs.Opening.{FailsOpening, IsNamed, IsOpened, IsWhileOpening, Opening, OpensAs, TouchesLast, begun_with, opened_of, with_records};
@@ -163,6 +164,7 @@ fn redo_last<D: Disk>(
     work: Items<Write>,
 ) -> Result<(Journal, Kept), OpenFault>
     ensures cause { FailsOpening D.Disk disk.old disk.new result }
+    ensures touches { Touches D.Disk (paths_of work) disk.old disk.new }
     ensures opening { (s : State) → D.told disk.old ≡ Some (at_rest s.files)
         → IsReadAt journal kept work s.files → Opening D.Disk s disk.old disk.new result }
 {
@@ -175,6 +177,7 @@ fn redo_last<D: Disk>(
 // The opening of a disk on which nothing is loose.
 fn open_at_rest<D: Disk>(disk: &mut D, alloc: Global) -> Result<(Journal, Kept), OpenFault>
     ensures cause { FailsOpening D.Disk disk.old disk.new result }
+    ensures touches { TouchesLast D.Disk disk.old disk.new }
     ensures opening { (s : State) → D.told disk.old ≡ Some (at_rest s.files)
         → Opening D.Disk s disk.old disk.new result }
 {
@@ -197,6 +200,8 @@ impl Journal {
     /// record is done again. After a fault it may be called again.
     pub fn recover<D: Disk>(disk: &mut D, alloc: Global) -> Result<(Journal, Kept), OpenFault>
         ensures cause { FailsOpening D.Disk disk.old disk.new result }
+        // Nothing changes but at the paths of the last counted record, which all lie outside of the journal.
+        ensures touches { TouchesLast D.Disk disk.old disk.new }
         // Journal and contents are those of the files, nothing is loose, and the last record's work is done.
         ensures opens { (s : State) → D.told disk.old ≡ Some s
             → IfOk result (λ both. OpensAs both.0 both.1 s.files (D.told disk.new)) }
@@ -206,9 +211,6 @@ impl Journal {
         // before might have left.
         ensures crash { (s : State) → D.told disk.old ≡ Some s
             → StopsLeave D.Disk (IsWhileOpening s) disk.old disk.new }
-        // Nothing changes but at the paths of the last counted record, which all lie outside of the journal.
-        ensures touches { (s : State) → D.told disk.old ≡ Some s
-            → TouchesLast D.Disk s.files disk.old disk.new }
     {
         match sync(disk) {
             Err(Failed) => Err(OpenFault::DiskFailed),

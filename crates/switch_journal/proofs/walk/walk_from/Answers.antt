@@ -1,4 +1,4 @@
-use Rattle.std.proofs.Common.{◌≡◌, ◌∙◌, ℕ, ◌≤◌, ◌^◌, sym, subst, arith, IsFalse, IsTrue}
+use Rattle.std.proofs.Common.{◌≡◌, ◌∙◌, ℕ, ◌≤◌, ◌^◌, sym, subst, arith}
 use Rattle.crash_disk.proofs.Effects.{reads_then}
 use Rattle.switch_journal.specs.Walks.{IsWalked}
 use Rattle.switch_journal.specs.declared.walk.Walked.{Walked}
