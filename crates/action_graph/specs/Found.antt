@@ -4,6 +4,7 @@ use Rattle.std.specs.List.{slice_index_or}
 use Rattle.action_graph.specs.Places.{IsIn}
 use Rattle.action_graph.specs.Reach.{Reached}
 
+-- a place is marked; none is behind the last
 abbrev pub marked : List Bool → ℕ → Bool
 marked marks place = slice_index_or marks place false
 

@@ -13,6 +13,7 @@ use Rattle.action_graph.specs.Links.{need_places}
 use Rattle.action_graph.specs.Plans.{bears_name}
 use Rattle.action_graph.specs.Found.{Coheres, marked}
 
+-- what stands in a row; nothing in one behind the last
 abbrev pub row : List (List ℕ) → ℕ → List ℕ
 row rows place = slice_index_or rows place []
 
@@ -20,12 +21,15 @@ row rows place = slice_index_or rows place []
 abbrev pub RowsWithin : List (List ℕ) → ℕ → Type 0
 RowsWithin rows count = (place : ℕ) (at : ℕ) → IsIn (row rows place) at → at < count
 
+-- a place stands among those that can be next
 abbrev pub has : BTreeSet ℕ → ℕ → Bool
 has ready place = contains nat_cmp ready place
 
+-- a place is marked
 abbrev pub IsMarked : List Bool → ℕ → Type 0
 IsMarked marks place = marked marks place ≡ true
 
+-- a need is met: it is listed where it is wanted
 abbrev pub IsMet : List Bool → List Bool → ℕ → Type 0
 IsMet wanted listed need = IsMarked wanted need → IsMarked listed need
 
@@ -109,5 +113,6 @@ named_marks names members = map (λ (member : Member). bears_name names (Some me
 abbrev pub need_rows : List Member → List Member → List (List ℕ)
 need_rows members all = map (λ (member : Member). need_places member.package all) members
 
+-- an install with its needs in a row
 abbrev pub step_in : List (List ℕ) → ℕ → Step
 step_in rows place = record { member = place; needs = row rows place }

@@ -30,6 +30,7 @@ pub record Chased : Type 0 where
 abbrev pub held_of : Member → Held
 held_of member = record { pkg = member.package.pkg; names = full_names member.package }
 
+-- its name
 abbrev pub held_name : Held → List ℕ
 held_name held = held.pkg.name
 
@@ -37,6 +38,7 @@ held_name held = held.pkg.name
 abbrev pub held_by_name : List Member → List Held
 held_by_name members = in_order_by held_name (map held_of members)
 
+-- the name of a package
 abbrev pub pkg_name : Pkg → List ℕ
 pkg_name pkg = pkg.name
 

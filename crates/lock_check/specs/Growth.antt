@@ -17,6 +17,7 @@ abbrev pub held_names : List Held → Option Pkg → List (List ℕ)
 held_names installed None = []
 held_names installed (Some pkg) = names_held (stored_in installed pkg)
 
+-- of these the bound ones
 abbrev pub led_to : List Pkg → List Held → List ℕ → List (List ℕ)
 led_to bound installed name = bound_among bound (held_names installed (bound_to bound name))
 
@@ -25,6 +26,7 @@ abbrev pub is_open_at : List Held → Option Pkg → Bool
 is_open_at installed None = false
 is_open_at installed (Some pkg) = is_none (stored_in installed pkg)
 
+-- a name is bound to such a package
 abbrev pub is_open : List Pkg → List Held → List ℕ → Bool
 is_open bound installed name = is_open_at installed (bound_to bound name)
 

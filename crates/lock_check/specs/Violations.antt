@@ -23,6 +23,7 @@ abbrev pub who_name : Who → List ℕ
 who_name (who.Name name) = name
 who_name (who.Pkg pkg) = pkg.name
 
+-- a violation stands by that name
 abbrev pub violation_name : Violation → List ℕ
 violation_name violation = who_name violation.who
 
