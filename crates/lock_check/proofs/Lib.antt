@@ -18,3 +18,5 @@ pub mod Standing
 pub mod Undoing
 pub mod TargetLaws
 pub mod Differing
+pub mod Conflicts
+pub mod Classes

@@ -2,6 +2,7 @@ pub mod LockFaults
 pub mod LockItems
 pub mod LockTexts
 pub mod Violations
+pub mod Sharing
 pub mod Targets
 pub mod Found
 pub mod Removals

@@ -16,6 +16,7 @@ mod lock_texts;
 mod made;
 mod progress;
 mod removal;
+mod sharing;
 mod targets;
 mod violation;
 mod violations;

@@ -1,17 +1,19 @@
 // What stands against the members of a target.
-ghost use Rattle.std.specs.Prelude.{[], ◌≡◌, ◌++◌, IfOk, OnOk, bytes_eq, find, map};
+ghost use Rattle.std.specs.Prelude.{[], ◌≡◌, ◌++◌, IfOk, OnOk, bytes_eq, map};
 ghost use Rattle.std.specs.List.{list_any};
 ghost use Rattle.std.specs.Option.{option_copied};
 ghost use Rattle.opam_names.specs.ByteOrders.{NeverFallsBy, has_key};
 ghost use Rattle.opam_filter.specs.Sets.{Rises};
+ghost use Rattle.lock_check.specs.Sharing.{shared_in, spot_class, told_class, whats_in};
 ghost use Rattle.lock_check.specs.Violations as violations;
 ghost use Rattle.lock_check.specs.Violations.{pkgs_of, told_of};
 ghost use Rattle.lock_check.specs.declared.violation.What.TheVariants as kinds;
 
+use crate::sharing::{Spot, class_spots, note_conflicts, sharer};
 use crate::{Violation, What, Who};
 use opam_filter::holds;
-use opam_names::{Items, Name, OutOfMemory, Pkg, Text, has_bytes};
-use opam_package::{Member, Need, Package, forbids};
+use opam_names::{Items, Name, OutOfMemory, Pkg, Text, has_bytes, order_is_stable};
+use opam_package::{Member, Need, Package};
 use std::alloc::Global;
 use std::collections::BTreeSet;
 
@@ -63,67 +65,19 @@ fn note_unmet(set: &[Pkg], needs: &[Need], whats: &mut Items<What>) -> Result<()
     Ok(())
 }
 
-fn note_conflicts(
-    alloc: Global,
-    set: &[Pkg],
-    dependent: &Package,
-    whats: &mut Items<What>,
-) -> Result<(), OutOfMemory>
-    ensures { OnOk result (whats.new
-        ≡ whats.old ++ violations.conflicts_among set.now dependent.now) }
-{
-    for other in set {
-        if forbids(dependent, other) {
-            whats.push(What::Conflict(other.copy(alloc)?))?;
-        }
-    }
-    Ok(())
-}
-
-fn has_class(classes: &[Text], class: &Text) -> bool
-    ensures { result ≡ list_any (bytes_eq class.now) classes.now }
-{
-    for other in classes {
-        if class == other {
-            return true;
-        }
-    }
-    false
-}
-
-fn shares_class(dependent: &Package, class: &Text, member: &Member) -> bool
-    ensures { result ≡ violations.shares_class dependent.now class.now member.now }
-{
-    member.package.pkg.name != dependent.pkg.name
-        && has_class(member.package.classes.as_slice(), class)
-}
-
-// The least other member that has the class.
-fn sharer<'a>(members: &'a [Member], dependent: &Package, class: &Text) -> Option<&'a Member>
-    ensures { option_copied result
-        ≡ find (violations.shares_class dependent.now class.now) members.now }
-{
-    for member in members {
-        if shares_class(dependent, class, member) {
-            return Some(member);
-        }
-    }
-    None
-}
-
 fn note_class(
     alloc: Global,
     class: &Text,
-    member: Option<&Member>,
+    other: Option<&Pkg>,
     whats: &mut Items<What>,
 ) -> Result<(), OutOfMemory>
     ensures { OnOk result (whats.new
-        ≡ whats.old ++ violations.class_with class.now (option_copied member.entry)) }
+        ≡ whats.old ++ told_class class.now (option_copied other.entry)) }
 {
-    match member {
+    match other {
         None => Ok(()),
-        Some(member) => {
-            let other = member.package.pkg.copy(alloc)?;
+        Some(other) => {
+            let other = other.copy(alloc)?;
             whats.push(What::Class(class.copy(alloc)?, other))
         }
     }
@@ -137,18 +91,19 @@ fn is_told(told: &BTreeSet<Text>, class: &Text) -> bool
 
 fn note_classes(
     alloc: Global,
-    members: &[Member],
+    spots: &[Spot],
     dependent: &Package,
     classes: &[Text],
     whats: &mut Items<What>,
 ) -> Result<(), OutOfMemory>
+    requires { NeverFallsBy spot_class spots.now }
     ensures { OnOk result (whats.new
-        ≡ whats.old ++ violations.shared_behind members.now dependent.now [] classes.now) }
+        ≡ whats.old ++ shared_in spots.now dependent.now [] classes.now) }
 {
     let mut told = BTreeSet::new(alloc);
     for class in classes {
         if !is_told(&told, class) {
-            note_class(alloc, class, sharer(members, dependent, class), whats)?;
+            note_class(alloc, class, sharer(spots, dependent, class), whats)?;
         }
         told.insert(class.copy(alloc)?)?;
     }
@@ -167,14 +122,14 @@ fn note_refused(alloc: Global, refused: &[Text], whats: &mut Items<What>) -> Res
 // All that stands against a member, kind by kind.
 fn whats_of(
     alloc: Global,
-    members: &[Member],
+    spots: &[Spot],
     set: &[Pkg],
     fresh: bool,
     dependent: &Package,
 ) -> Result<Items<What>, OutOfMemory>
-    requires set { set.now ≡ pkgs_of members.now }
     requires rises { Rises set.now }
-    ensures { IfOk result (λ whats. whats ≡ violations.whats_of members.now fresh dependent.now) }
+    requires spots { NeverFallsBy spot_class spots.now }
+    ensures { IfOk result (λ whats. whats ≡ whats_in spots.now set.now fresh dependent.now) }
 {
     let mut whats = Items::new(alloc);
     note_unavailable(fresh, dependent, &mut whats)?;
@@ -182,7 +137,7 @@ fn whats_of(
     note_conflicts(alloc, set, dependent, &mut whats)?;
     note_classes(
         alloc,
-        members,
+        spots,
         dependent,
         dependent.classes.as_slice(),
         &mut whats,
@@ -237,10 +192,12 @@ pub(crate) fn tell_members(
     ensures { OnOk result (told.new
         ≡ told.old ++ violations.violations_among members.now fresh.now) }
 {
+    order_is_stable::<Spot>();
+    let spots = class_spots(alloc, members)?;
     for member in members {
         let whats = whats_of(
             alloc,
-            members,
+            spots.as_slice(),
             set,
             is_fresh(fresh, member),
             &member.package,
