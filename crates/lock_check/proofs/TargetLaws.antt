@@ -10,18 +10,20 @@ use Rattle.opam_names.specs.ByteOrders.{RisesBy, each_once, has_key, in_order_by
 use Rattle.opam_names.specs.declared.packages.Pkg.{Pkg}
 use Rattle.opam_filter.specs.Laws.{HoldingIsMonotone}
 use Rattle.opam_filter.specs.NameSets.{with_name}
+use Rattle.opam_package.specs.Dependencies.{is_forbidden}
 use Rattle.opam_package.specs.declared.package.Member.{Member}
 use Rattle.opam_package.specs.declared.package.Need.{Need}
 use Rattle.opam_package.specs.declared.package.Package.{Package}
 use Rattle.lock_check.specs.Chased.{Chased, bound_to, has_pkg, held_by_name, held_name, held_of, install_members, is_among, is_awaited, is_other_version, is_replaced, next_of, pkg_name, stay, stored_in, stored_of}
 use Rattle.lock_check.specs.Growth.{count_missing}
 use Rattle.lock_check.specs.Needed.{IsClosed, IsLeast}
-use Rattle.lock_check.specs.TargetLaws.{LeastIsOne, NoneIsLeftOut, NothingAgainstIsMet, UnionIsMet}
+use Rattle.lock_check.specs.TargetLaws.{LeastIsOne, NoneIsLeftOut, NothingAgainstIsMet, NothingAgainstIsPeace, UnionIsMet}
 use Rattle.lock_check.specs.Targets.{by_name, has_member, member_name}
-use Rattle.lock_check.specs.Violations.{conflicts_among, is_need_met, is_met_among, next_item, pkgs_of, refused_in, shared_behind, told_of, unavailable, unmet_from, violation_name, violations_among, violations_of_some, is_from_repository, whats_of}
+use Rattle.lock_check.specs.Violations.{all_violations, conflicts_among, is_need_met, is_met_among, next_item, pkgs_of, refused_in, shared_behind, told_of, unavailable, unmet_from, violation_name, violations_among, violations_of_some, is_from_repository, whats_of}
 use Rattle.lock_check.specs.declared.held.Held.{Held}
+use Rattle.lock_check.specs.declared.violation.Violation.{Violation}
 use Rattle.lock_check.specs.declared.violation.What.{What}
-use Rattle.lock_check.specs.declared.violation.What.TheVariants.{Unmet}
+use Rattle.lock_check.specs.declared.violation.What.TheVariants.{Conflict, Unmet}
 use Rattle.lock_check.proofs.Among.{among_all, among_in, either, in_among, is_same, less, or_left, turned}
 use Rattle.lock_check.proofs.Largest.{mono}
 use Rattle.lock_check.proofs.Members.{first_in, in_cases, in_map, in_order, later_in, none_in}
@@ -104,21 +106,47 @@ met_of members fresh dependent is =
     let two = none_left (unavailable fresh dependent ++ unmet_from (pkgs_of members) 1 dependent.items) (conflicts_among (pkgs_of members) dependent) three in
     all_met (pkgs_of members) 1 dependent.items (none_right (unavailable fresh dependent) (unmet_from (pkgs_of members) 1 dependent.items) two)
 
-each_met : (members : List Member) (fresh : List (List ℕ)) (some : List Member) → violations_of_some members fresh some ≡ [] → (member : Member) → Contains some member
-    → IsTrue (is_met_among (pkgs_of members) member.package)
-each_met members fresh [] is member at = absurd (none_in member at)
-each_met members fresh (x ∷ some) is member at =
+none_of : (members : List Member) (fresh : List (List ℕ)) (some : List Member) → violations_of_some members fresh some ≡ [] → (member : Member) → Contains some member
+    → whats_of members (is_from_repository fresh member) member.package ≡ []
+none_of members fresh [] is member at = absurd (none_in member at)
+none_of members fresh (x ∷ some) is member at =
     ⊎_elim
     (λ same.
-    let P : Member → Type 0 = λ y. IsTrue (is_met_among (pkgs_of members) y.package) in
-    subst P same (met_of members (is_from_repository fresh x) x.package
-    (none_mapped (told_of x.package.pkg) (whats_of members (is_from_repository fresh x) x.package)
-    (none_left (map (told_of x.package.pkg) (whats_of members (is_from_repository fresh x) x.package)) (violations_of_some members fresh some) is))))
-    (λ later. each_met members fresh some (none_right (map (told_of x.package.pkg) (whats_of members (is_from_repository fresh x) x.package)) (violations_of_some members fresh some) is) member later)
+    let P : Member → Type 0 = λ y. whats_of members (is_from_repository fresh y) y.package ≡ [] in
+    subst P same (none_mapped (told_of x.package.pkg) (whats_of members (is_from_repository fresh x) x.package)
+    (none_left (map (told_of x.package.pkg) (whats_of members (is_from_repository fresh x) x.package)) (violations_of_some members fresh some) is)))
+    (λ later. none_of members fresh some (none_right (map (told_of x.package.pkg) (whats_of members (is_from_repository fresh x) x.package)) (violations_of_some members fresh some) is) member later)
     (in_cases x some member at)
 
+none_told : (first : List Violation) (members : List Member) (fresh : List (List ℕ)) → all_violations first members fresh ≡ [] → (member : Member) → Contains members member
+    → whats_of members (is_from_repository fresh member) member.package ≡ []
+none_told first members fresh is = none_of members fresh members (none_right first (violations_among members fresh) (none_in_order violation_name (first ++ violations_among members fresh) is))
+
 pub nothing_met : NothingAgainstIsMet
-nothing_met first members fresh is = each_met members fresh members (none_right first (violations_among members fresh) (none_in_order violation_name (first ++ violations_among members fresh) is))
+nothing_met first members fresh is member at = met_of members (is_from_repository fresh member) member.package (none_told first members fresh is member at)
+
+none_forbidden : (dependent : Package) (set : List Pkg) → filter (is_forbidden dependent) set ≡ [] → (pkg : Pkg) → Contains set pkg → is_forbidden dependent pkg ≡ false
+none_forbidden dependent [] is pkg at = absurd (none_in pkg at)
+none_forbidden dependent (x ∷ set) is pkg at = by (is_forbidden dependent x) refl is (λ none later. none_forbidden dependent set none pkg later)
+  where
+    by : (b : Bool) → is_forbidden dependent x ≡ b → cond b (x ∷ filter (is_forbidden dependent) set) (filter (is_forbidden dependent) set) ≡ []
+        → (filter (is_forbidden dependent) set ≡ [] → Contains set pkg → is_forbidden dependent pkg ≡ false) → is_forbidden dependent pkg ≡ false
+    by true forbids none rest = absurd cc
+    by false allows none rest = ⊎_elim (λ same. ap (is_forbidden dependent) (sym same) ∙ allows) (λ later. rest none later) (in_cases x set pkg at)
+
+peace_of : (members : List Member) (fresh : Bool) (dependent : Package) → whats_of members fresh dependent ≡ [] → (pkg : Pkg) → Contains (pkgs_of members) pkg
+    → is_forbidden dependent pkg ≡ false
+peace_of members fresh dependent is =
+    let four = none_left (unavailable fresh dependent ++ unmet_from (pkgs_of members) 1 dependent.items ++ conflicts_among (pkgs_of members) dependent ++ shared_behind members dependent [] dependent.classes)
+    (refused_in fresh dependent) is in
+    let three = none_left (unavailable fresh dependent ++ unmet_from (pkgs_of members) 1 dependent.items ++ conflicts_among (pkgs_of members) dependent) (shared_behind members dependent [] dependent.classes) four in
+    none_forbidden dependent (pkgs_of members)
+    (none_mapped Conflict (filter (is_forbidden dependent) (pkgs_of members))
+    (none_right (unavailable fresh dependent ++ unmet_from (pkgs_of members) 1 dependent.items) (conflicts_among (pkgs_of members) dependent) three))
+
+pub nothing_forbidden : NothingAgainstIsPeace
+nothing_forbidden first members fresh is one other at there =
+    peace_of members (is_from_repository fresh one) one.package (none_told first members fresh is one at) other.package.pkg (in_map (λ (member : Member). member.package.pkg) members other there)
 
 -- ---- least sets
 

@@ -1,8 +1,9 @@
 -- Laws of targets. What each says is this project's own.
-use Rattle.std.specs.Prelude.{◌≡◌, ℕ, List, [], ◌∷◌, ◌++◌, map, bytes_eq, Contains, IsTrue}
+use Rattle.std.specs.Prelude.{◌≡◌, ℕ, List, [], ◌∷◌, ◌++◌, map, false, bytes_eq, Contains, IsTrue}
 use Rattle.std.specs.List.{IsDistinct}
 use Rattle.std.specs.declared.option.Option.TheVariants.{None}
 use Rattle.opam_filter.specs.Sets.{Rises}
+use Rattle.opam_package.specs.Dependencies.{is_forbidden}
 use Rattle.opam_package.specs.declared.package.Member.{Member}
 use Rattle.lock_check.specs.Chased.{Chased, held_by_name, install_members, next_of}
 use Rattle.lock_check.specs.Needed.{IsLeast}
@@ -24,6 +25,11 @@ pub record NoneIsLeftOut : Type 0 where
 -- where nothing stands against members, all items of each are met among them
 abbrev pub NothingAgainstIsMet : Type 0
 NothingAgainstIsMet = (first : List Violation) (members : List Member) (fresh : List (List ℕ)) → all_violations first members fresh ≡ [] → AreMet members
+
+-- and none of them forbids another one
+abbrev pub NothingAgainstIsPeace : Type 0
+NothingAgainstIsPeace = (first : List Violation) (members : List Member) (fresh : List (List ℕ)) → all_violations first members fresh ≡ []
+    → (one other : Member) → Contains members one → Contains members other → is_forbidden one.package other.package.pkg ≡ false
 
 -- there is one least set at most
 abbrev pub LeastIsOne : Type 0

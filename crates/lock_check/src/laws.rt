@@ -1,5 +1,5 @@
 // Laws of targets, each proved as a clause of a function that does nothing.
-ghost use Rattle.lock_check.specs.TargetLaws.{InstalledStays, LeastIsOne, LeastIsThere, NoneIsLeftOut, NothingAgainstIsMet, UnionIsMet};
+ghost use Rattle.lock_check.specs.TargetLaws.{InstalledStays, LeastIsOne, LeastIsThere, NoneIsLeftOut, NothingAgainstIsMet, NothingAgainstIsPeace, UnionIsMet};
 
 use crate::held::Held;
 use opam_filter::holding_is_monotone;
@@ -22,6 +22,11 @@ pub fn none_is_left_out()
 /// A target against which nothing stands is closed under what its packages depend on.
 pub fn nothing_against_is_met()
     ensures { NothingAgainstIsMet }
+{}
+
+/// Of such a target no package forbids another.
+pub fn nothing_against_is_peace()
+    ensures { NothingAgainstIsPeace }
 {}
 
 /// There is one least set of needed names at most.
