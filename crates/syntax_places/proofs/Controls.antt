@@ -1,6 +1,6 @@
 -- The open brackets of a walk, the innermost last in the vector and first in the definition.
-use Rattle.std.proofs.Common.{◌≡◌, ℕ, ◌+◌, ◌-◌, Bool, List, [], ◌∷◌, ◌++◌, take, map, refl, ap, sym, subst, ◌∙◌}
-use Rattle.std.specs.Prelude.{reverse, option_to_list, IfNone, MatchOption}
+use Rattle.std.proofs.Common.{◌≡◌, ℕ, ◌+◌, ◌-◌, Bool, List, [], ◌∷◌, ◌++◌, take, map, ap, sym, ◌∙◌}
+use Rattle.std.specs.Prelude.{option_to_list, IfNone, MatchOption}
 use Rattle.std.proofs.lemmas.List.{reverse-append, append-nil}
 use Rattle.std.specs.declared.option.Option.{Option}
 use Rattle.std.specs.declared.option.Option.TheVariants.{None, Some}

@@ -1,2 +1,4 @@
+pub mod Leading
+pub mod Endings
 pub mod Controls
 pub mod TooDeep

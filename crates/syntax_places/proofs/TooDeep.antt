@@ -3,7 +3,7 @@ use Rattle.std.proofs.Common.{◌≡◌, ◌≤◌, ℕ, Bool, true, false, refl
 use Rattle.std.specs.declared.option.Option.{Option}
 use Rattle.std.specs.declared.option.Option.TheVariants.{None, Some}
 use Rattle.syntax_trees.specs.Faults.{is_opening}
-use Rattle.syntax_trees.specs.Following.{TokenControl, token_follows}
+use Rattle.syntax_trees.specs.Following.{TokenControl}
 use Rattle.syntax_trees.specs.Heights.{token_height}
 use Rattle.syntax_trees.specs.declared.limits.TheConstants.{NESTING_LIMIT}
 use Rattle.syntax_trees.specs.declared.token.Token.{Token}

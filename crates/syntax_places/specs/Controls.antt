@@ -1,5 +1,5 @@
 -- The state of a walk over tokens, as the definitions of what may follow and of how deep it nests see it. This project's own.
-use Rattle.std.specs.Prelude.{◌≡◌, ℕ, List, [], ◌∷◌, Bool, true, false, map, reverse}
+use Rattle.std.specs.Prelude.{◌≡◌, List, [], ◌∷◌, Bool, true, false, map, reverse}
 use Rattle.std.specs.declared.option.Option.{Option}
 use Rattle.std.specs.declared.option.Option.TheVariants.{None, Some}
 use Rattle.syntax_trees.specs.Following.{ExpectedNext, AtEntry, AfterName, AfterLabel, Operand, Inside, Side, AfterPrimary, AfterBraces, ValueBracket, InList, InGroup, InBraces, OpenBracket, TokenControl}

@@ -1,5 +1,5 @@
 -- The heights of a walk as the definition of heights sees them. This project's own.
-use Rattle.std.specs.Prelude.{ℕ, List, map, reverse}
+use Rattle.std.specs.Prelude.{List, map, reverse}
 use Rattle.syntax_trees.specs.Heights.{OperandMode, Wanted, LeftRead, RightWanted, RightRead, KeptHeight, HeightState}
 use Rattle.syntax_places.specs.declared.heights.Heights.{Heights}
 use Rattle.syntax_places.specs.declared.heights.Kept.{Kept}

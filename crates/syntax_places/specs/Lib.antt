@@ -1,3 +1,4 @@
+pub mod Beginnings
 pub mod Followed
 pub mod Steps
 pub mod Controls
