@@ -1,0 +1,12 @@
+mod Aparts
+mod Clashing
+mod Deciding
+mod Files
+mod Folders
+mod InstallNames
+mod Keys
+mod LeastMet
+mod Near
+mod OwnFolder
+mod Placements
+mod Tests
