@@ -2,4 +2,5 @@ pub mod Beginnings
 pub mod Followed
 pub mod Steps
 pub mod Controls
+pub mod Depths
 pub mod HeightsSeen
