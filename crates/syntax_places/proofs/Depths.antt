@@ -1,5 +1,5 @@
 -- Which places of bytes are too deep, told from a text that begins like them.
-use Rattle.std.proofs.Common.{◌≡◌, ℕ, zero, suc, ◌+◌, ◌<◌, ◌≤◌, Bool, true, false, not, nat_lt, ◌&&◌, ◌||◌, List, [], ◌∷◌, ◌++◌, length, take, drop, get_or, map, refl, ap, sym, subst, ◌∙◌, arith, ◌⊎◌, inl, inr, if◌then◌else◌}
+use Rattle.std.proofs.Common.{◌≡◌, ℕ, zero, suc, ◌+◌, ◌<◌, ◌≤◌, Bool, true, false, not, nat_lt, ◌&&◌, ◌||◌, List, [], ◌∷◌, ◌++◌, length, take, drop, get_or, refl, ap, sym, subst, ◌∙◌, arith, ◌⊎◌, inl, inr, if◌then◌else◌}
 use Rattle.std.proofs.Math.ListN.{length-take}
 use Rattle.std.proofs.lemmas.Bool.{cases_lt}
 use Rattle.std.proofs.lemmas.Bool.Decides.{nat_tests}
@@ -7,8 +7,8 @@ use Rattle.std.proofs.lemmas.List.{length-append, take-append-drop}
 use Rattle.std.specs.declared.option.Option.{Option}
 use Rattle.std.specs.declared.option.Option.TheVariants.{None, Some}
 use Rattle.opam_names.proofs.Bytes.{both_left, both_right}
-use Rattle.syntax_trees.specs.Faults.{BeginsFile, NestsAt, IsTooDeep, IsDeepAt, IsNowhereDeep, begins_longer}
-use Rattle.syntax_trees.specs.Following.{at_entry, token_of, tokens_followed as followed}
+use Rattle.syntax_trees.specs.Faults.{BeginsFile, NestsAt, IsTooDeep, begins_longer}
+use Rattle.syntax_trees.specs.Following.{at_entry, tokens_followed as followed}
 use Rattle.syntax_trees.specs.Tokens.{first, Single, Placed, placed, span_between, AreTokens, ends, gap, single}
 use Rattle.syntax_trees.proofs.NowhereDeep.{OpensWith, opens_with, opening_first, lexes_onto}
 use Rattle.syntax_faults.specs.Endings.{TokensFollow}
@@ -105,7 +105,7 @@ of_blank bytes n q l w d h = record { within = omega arith; nests = nests_back b
 all_to_blank : (bytes : List ℕ) (n q : ℕ) → IsLongest bytes n → IsTooDeep bytes q → IsTooDeep (take n bytes ++ 32 ∷ []) q
 all_to_blank bytes n q g d =
     let l = deep_within bytes n q g d in
-    elim (cases_lt (q + 1) n) [ | inl m ↦ to_text bytes (32 ∷ []) n q m g.within d | inr m ↦ to_blank bytes n q (omega arith) g.within d ]
+    elim (cases_lt (q + 1) n) [ inl m ↦ to_text bytes (32 ∷ []) n q m g.within d | inr m ↦ to_blank bytes n q (omega arith) g.within d ]
 
 -- where the last byte is too deep, a blank makes of the bytes tokens that follow one another
 last_follows : (bytes : List ℕ) (n q : ℕ) → q + 1 ≡ n → n ≤ length bytes → IsTooDeep bytes q → TokensFollow (at_entry false) (take n bytes ++ 32 ∷ [])
@@ -123,7 +123,7 @@ last_follows bytes n q l w d =
 below_last : (bytes : List ℕ) (n q : ℕ) → IsLongest bytes n → ¬ (TokensFollow (at_entry false) (take n bytes ++ 32 ∷ [])) → IsTooDeep bytes q → q + 1 < n
 below_last bytes n q g none d =
     let l = deep_within bytes n q g d in
-    elim (cases_lt (q + 1) n) [ | inl m ↦ m | inr m ↦ absurd (none (last_follows bytes n q (omega arith) g.within d)) ]
+    elim (cases_lt (q + 1) n) [ inl m ↦ m | inr m ↦ absurd (none (last_follows bytes n q (omega arith) g.within d)) ]
 
 -- tests of places
 both_so : (a b : Bool) → a ≡ true → b ≡ true → (a && b) ≡ true

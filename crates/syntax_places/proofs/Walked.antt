@@ -1,11 +1,9 @@
 -- A walk over tokens that all follow one another, up to the first that is too deep.
-use Rattle.std.proofs.Common.{◌≡◌, ℕ, ◌+◌, ◌<◌, ◌≤◌, Bool, true, false, List, [], ◌∷◌, ◌++◌, length, drop, map, refl, ap, sym, subst, ◌∙◌, arith}
-use Rattle.std.proofs.Math.ListN.{drop_of_length-le}
+use Rattle.std.proofs.Common.{◌≡◌, ℕ, ◌+◌, ◌<◌, ◌≤◌, true, false, List, [], ◌∷◌, ◌++◌, length, drop, map, refl, ap, sym, subst, ◌∙◌, arith}
 use Rattle.std.proofs.lemmas.List.{append-nil, drop-drop}
 use Rattle.std.specs.declared.option.Option.TheVariants.{None, Some}
 use Rattle.syntax_trees.specs.declared.limits.TheConstants.{NESTING_LIMIT}
 use Rattle.syntax_trees.specs.declared.token.Token.{Token}
-use Rattle.syntax_trees.specs.declared.token.Token.TheVariants.{Text}
 use Rattle.syntax_trees.specs.Faults.{is_opening, IsDeepAt, IsNowhereDeep}
 use Rattle.syntax_trees.specs.Following.{TokenControl as Control, at_entry, token_of, token_follows as follow, followed_after as followed_from, tokens_followed as followed}
 use Rattle.syntax_trees.specs.Heights.{HeightState as State, height_step as step, token_height as height, NestsBelow as Below, height_start as start, height_after as exec}
@@ -105,7 +103,7 @@ walked_take text rest at len token f g r s o w =
       tokens = w.tokens ++ one ∷ [];
       lexes = lexes_then w.lexes (read_one stands);
       leads = ap (followed (at_entry false)) (kinds_more w.tokens one) ∙ followed_append (Some (at_entry false)) (map token_of w.tokens) (token ∷ [])
-      ∙ ap (λ z. followed_from z (token ∷ [])) w.leads ∙ o.control;
+          ∙ ap (λ z. followed_from z (token ∷ [])) w.leads ∙ o.control;
       height = more ∙ ap (λ h. step h token) w.height ∙ sym o.height;
       below = below_more start w.tokens one w.below levels.level;
       levels = levels;

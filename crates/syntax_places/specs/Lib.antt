@@ -3,4 +3,5 @@ pub mod Followed
 pub mod Steps
 pub mod Controls
 pub mod Depths
+pub mod Faults
 pub mod HeightsSeen

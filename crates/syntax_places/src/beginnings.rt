@@ -115,11 +115,7 @@ pub(crate) fn ending(number: usize) -> &'static [u8]
 }
 
 // Whether the bytes with this ending are tokens that may follow one another.
-pub(crate) fn follow_with(
-    alloc: Global,
-    bytes: &[u8],
-    ending: &[u8],
-) -> Result<bool, OutOfMemory>
+pub(crate) fn follow_with(alloc: Global, bytes: &[u8], ending: &[u8]) -> Result<bool, OutOfMemory>
     requires limit { length bytes.now ≤ FILE_LIMIT }
     requires short { length ending.now ≤ 5 }
     ensures { IfOk result (λ follow. (follow ≡ true) ↔ TokensFollow (at_entry false) (bytes.now ++ ending.now)) }

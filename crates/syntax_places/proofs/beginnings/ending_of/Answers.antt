@@ -1,4 +1,4 @@
-use Rattle.std.proofs.Common.{false, List, ℕ, [], ◌++◌, get_or, subst, arith, ap}
+use Rattle.std.proofs.Common.{false, List, ℕ, ◌++◌, subst, arith, ap}
 use Rattle.syntax_trees.specs.Following.{at_entry}
 use Rattle.syntax_faults.specs.Endings.{TokensFollow}
 use Rattle.syntax_places.proofs.Endings.{none_ends, none_more}
