@@ -1,11 +1,13 @@
 -- The endings of unfinished bytes, one after another.
 use Rattle.std.proofs.Common.{◌≡◌, ℕ, zero, suc, ◌+◌, ◌-◌, ◌∙◌, ◌<◌, ◌≤◌, ◌⊎◌, inl, inr, ap, false, take, List, [], ◌∷◌, ◌++◌, length, refl, sym, subst, arith, get_or}
+use Rattle.std.specs.declared.option.Option.{Option}
+use Rattle.std.specs.declared.option.Option.TheVariants.{Some}
 use Rattle.syntax_trees.specs.Faults.{BeginsFile}
 use Rattle.syntax_trees.specs.Following.{at_entry}
 use Rattle.syntax_faults.specs.Endings.{TokensFollow, IsEnding, no_ending, comment_ending, name_ending, scope_ending, equals_ending, plus_ending, colon_ending, text_ending, IsEscapeEnd, no_escape, escaped_quote, last_digit, two_digits, escaped_newline, AreQuotes, one_quote, three_quotes}
 use Rattle.syntax_faults.proofs.Begun.{beginnings_are_told}
 use Rattle.syntax_trees.specs.Tokens.{ends}
-use Rattle.syntax_places.specs.Beginnings.{IsNear, IsLongest, IsBetween, endings}
+use Rattle.syntax_places.specs.Beginnings.{IsNear, IsLongest, IsBetween, IsEndingOf, endings}
 
 data AreEndings : List (List ℕ) → Type 0 where
   no_more : AreEndings []
@@ -88,3 +90,8 @@ longest bytes low high b l =
     let within = b.within in
     let next : high ≡ low + 1 = omega arith in
     record { within = omega arith; begins = b.begins; stray = λ inside p. b.stray (subst (λ k. BeginsFile (take k bytes)) (sym next) p) }
+
+-- bytes with an ending begin a file
+pub ending_begins : (bytes : List ℕ) (found : Option ℕ) (number : ℕ) → found ≡ Some number → IsEndingOf bytes found → BeginsFile bytes
+ending_begins bytes found number e i =
+    let j : IsEndingOf bytes (Some number) = subst (λ o. IsEndingOf bytes o) e i in one_ends bytes number j.0 j.1

@@ -23,7 +23,7 @@ pub record KindsFollow (c : Control) (bytes : List ℕ) : Type 0 where
   pub spelled : AreKinds bytes kinds
   pub leads : followed c kinds ≡ Some after
 
-kinds_follow : {c : Control} {bytes : List ℕ} → TokensFollow c bytes → KindsFollow c bytes
+pub kinds_follow : {c : Control} {bytes : List ℕ} → TokensFollow c bytes → KindsFollow c bytes
 kinds_follow (tokens, d, p, e) = record { kinds = map token_of tokens; after = d; spelled = kinds_of p; leads = e }
 
 tokens_follow : {c : Control} {bytes : List ℕ} → KindsFollow c bytes → TokensFollow c bytes
@@ -33,7 +33,7 @@ tokens_follow {c} {bytes} p = let a = at_places (length bytes) p.spelled in (a.t
 before_gap : {c : Control} {bytes rest : List ℕ} → first bytes ≡ Gap rest → KindsFollow c rest → KindsFollow c bytes
 before_gap e p = record { kinds = p.kinds; after = p.after; spelled = gap_kinds e p.spelled; leads = p.leads }
 
-behind_gap : {c : Control} {bytes rest : List ℕ} → first bytes ≡ Gap rest → KindsFollow c bytes → KindsFollow c rest
+pub behind_gap : {c : Control} {bytes rest : List ℕ} → first bytes ≡ Gap rest → KindsFollow c bytes → KindsFollow c rest
 behind_gap {c} {bytes} {rest} e p =
     record { kinds = p.kinds; after = p.after; spelled = given_by p.kinds (first bytes) (Gap rest) e (kinds_first bytes p.spelled); leads = p.leads }
 
@@ -53,13 +53,13 @@ before_token {token = token} (quoted e i) f p = record {
   leads = ap (λ o. followed_from o p.kinds) f ∙ p.leads;
 }
 
-record Behind (c : Control) (token : Token) (rest : List ℕ) : Type 0 where
-  more : List Token
-  after : Control
-  spelled : AreKinds rest more
-  leads : followed_from (follow c token) more ≡ Some after
+pub record Behind (c : Control) (token : Token) (rest : List ℕ) : Type 0 where
+  pub more : List Token
+  pub after : Control
+  pub spelled : AreKinds rest more
+  pub leads : followed_from (follow c token) more ≡ Some after
 
-behind_token : {c : Control} {bytes rest : List ℕ} {token : Token} → StandsFirst bytes token rest → KindsFollow c bytes → Behind c token rest
+pub behind_token : {c : Control} {bytes rest : List ℕ} {token : Token} → StandsFirst bytes token rest → KindsFollow c bytes → Behind c token rest
 behind_token {c} {bytes} (whole {token = token} {rest = rest} e) p =
     let g : SingleGives token rest p.kinds = given_by p.kinds (first bytes) (Single token rest) e (kinds_first bytes p.spelled) in
     record { more = g.more; after = p.after; spelled = g.later; leads = ap (followed c) (sym g.is) ∙ p.leads }
@@ -89,7 +89,7 @@ leads_skip bytes rest at len c r e s =
     let found : first (drop at bytes) ≡ Gap (drop (at + len) bytes) = ap first (sym r) ∙ e ∙ ap (λ l. Gap l) left in
     record { onto = λ p. s.onto (before_gap found p); only = λ p. behind_gap found (s.only p) }
 
-stands_at : (bytes rest : List ℕ) (at len : ℕ) (token : Token) → rest ≡ drop at bytes → StandsFirst rest token (drop len rest)
+pub stands_at : (bytes rest : List ℕ) (at len : ℕ) (token : Token) → rest ≡ drop at bytes → StandsFirst rest token (drop len rest)
     → StandsFirst (drop at bytes) token (drop (at + len) bytes)
 stands_at bytes rest at len token r f =
     let left : drop len rest ≡ drop (at + len) bytes = ap (drop len) r ∙ drop-drop len at bytes in

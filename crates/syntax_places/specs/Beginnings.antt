@@ -1,6 +1,10 @@
 -- How much of a text begins a file. This project's own.
-use Rattle.std.specs.Prelude.{ℕ, ◌+◌, ◌<◌, ◌≤◌, List, [], ◌∷◌, length, take, codes}
+use Rattle.std.specs.Prelude.{ℕ, ◌+◌, ◌<◌, ◌≤◌, List, [], ◌∷◌, ◌++◌, length, get_or, false, take, codes}
+use Rattle.std.specs.declared.option.Option.{Option}
+use Rattle.std.specs.declared.option.Option.TheVariants.{None, Some}
 use Rattle.syntax_trees.specs.Faults.{BeginsFile}
+use Rattle.syntax_trees.specs.Following.{at_entry}
+use Rattle.syntax_faults.specs.Endings.{TokensFollow}
 
 -- the endings with which bytes that were cut off are tried, one after another
 abbrev pub endings : List (List ℕ)
@@ -8,6 +12,11 @@ endings =
     [] ∷ codes "x" ∷ codes "x:x" ∷ codes "**)" ∷ codes "=" ∷ codes "+" ∷ codes ":"
     ∷ (34 ∷ []) ∷ (34 ∷ 34 ∷ []) ∷ (48 ∷ 34 ∷ []) ∷ (48 ∷ 48 ∷ 34 ∷ []) ∷ (10 ∷ 34 ∷ [])
     ∷ (34 ∷ 34 ∷ 34 ∷ []) ∷ (34 ∷ 34 ∷ 34 ∷ 34 ∷ []) ∷ (48 ∷ 34 ∷ 34 ∷ 34 ∷ []) ∷ (48 ∷ 48 ∷ 34 ∷ 34 ∷ 34 ∷ []) ∷ (10 ∷ 34 ∷ 34 ∷ 34 ∷ []) ∷ []
+
+-- the ending of this number makes of the bytes tokens that may follow one another; or they begin no file
+abbrev pub IsEndingOf : List ℕ → Option ℕ → Type 0
+IsEndingOf bytes (Some number) = (number < length endings) × TokensFollow (at_entry false) (bytes ++ get_or endings number [])
+IsEndingOf bytes None = ¬ (BeginsFile bytes)
 
 -- the bytes up to the place begin a file
 pub record IsNear (bytes : List ℕ) (place : ℕ) : Type 0 where

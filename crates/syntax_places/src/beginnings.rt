@@ -1,7 +1,7 @@
 // How much of a text begins a file: one of a few endings makes of it tokens that may follow one another.
 ghost use Rattle.std.specs.Prelude.{◌≡◌, ◌<◌, ◌≤◌, ◌^◌, ◌++◌, ◌↔◌, true, false, get_or, length, [], IfOk};
 ghost use Rattle.syntax_faults.specs.Endings.{TokensFollow};
-ghost use Rattle.syntax_places.specs.Beginnings.{IsLongest, IsNear, endings, IsBetween};
+ghost use Rattle.syntax_places.specs.Beginnings.{IsBetween, IsEndingOf, IsLongest, IsNear, endings};
 ghost use Rattle.syntax_places.specs.Controls.{Takes, control_of};
 ghost use Rattle.syntax_trees.specs.Faults.{BeginsFile};
 ghost use Rattle.syntax_trees.specs.Following.{at_entry, token_follows};
@@ -66,18 +66,29 @@ pub fn begins_file(alloc: Global, bytes: &[u8]) -> Result<bool, OutOfMemory>
     requires { length bytes.now ≤ FILE_LIMIT }
     ensures { IfOk result (λ begins. (begins ≡ true) ↔ BeginsFile bytes.now) }
 {
+    match ending_of(alloc, bytes)? {
+        Some(_) => Ok(true),
+        None => Ok(false),
+    }
+}
+
+// Which ending makes of the bytes tokens that may follow one another; one does if they begin a file.
+pub(crate) fn ending_of(alloc: Global, bytes: &[u8]) -> Result<Option<usize>, OutOfMemory>
+    requires { length bytes.now ≤ FILE_LIMIT }
+    ensures { IfOk result (IsEndingOf bytes.now) }
+{
     let mut number = 0;
     while number < ENDINGS {
         if follow_with(alloc, bytes, ending(number))? {
-            return Ok(true);
+            return Ok(Some(number));
         }
         number += 1;
     }
-    Ok(false)
+    Ok(None)
 }
 
 // What may end a comment, a bracket that begins one, a word, a sign or a text.
-fn ending(number: usize) -> &'static [u8]
+pub(crate) fn ending(number: usize) -> &'static [u8]
     requires { number < ENDINGS }
     ensures is { result.now ≡ get_or endings number [] }
     ensures short { length result.now ≤ 5 }
@@ -104,15 +115,27 @@ fn ending(number: usize) -> &'static [u8]
 }
 
 // Whether the bytes with this ending are tokens that may follow one another.
-fn follow_with(alloc: Global, bytes: &[u8], ending: &[u8]) -> Result<bool, OutOfMemory>
+pub(crate) fn follow_with(alloc: Global, bytes: &[u8], ending: &[u8]) -> Result<bool, OutOfMemory>
     requires limit { length bytes.now ≤ FILE_LIMIT }
     requires short { length ending.now ≤ 5 }
     ensures { IfOk result (λ follow. (follow ≡ true) ↔ TokensFollow (at_entry false) (bytes.now ++ ending.now)) }
 {
+    let whole = with_ending(alloc, bytes, ending)?;
+    tokens_follow(alloc, &whole)
+}
+
+// The bytes and this ending.
+pub(crate) fn with_ending(
+    alloc: Global,
+    bytes: &[u8],
+    ending: &[u8],
+) -> Result<Vec<u8>, OutOfMemory>
+    ensures { IfOk result (λ whole. whole.items ≡ bytes.now ++ ending.now) }
+{
     let mut whole = Vec::new(alloc);
     whole.extend_from_slice(bytes)?;
     whole.extend_from_slice(ending)?;
-    tokens_follow(alloc, &whole)
+    Ok(whole)
 }
 
 /// Whether the bytes are tokens that may follow one another from the start of a file on.

@@ -2,7 +2,7 @@ use Rattle.std.proofs.Common.{ℕ, ◌<◌, ◌≤◌, ◌-◌, ◌++◌, [], fa
 use Rattle.syntax_trees.specs.Following.{at_entry}
 use Rattle.syntax_faults.specs.Endings.{TokensFollow}
 use Rattle.syntax_places.specs.Beginnings.{endings}
-use Rattle.syntax_places.proofs.beginnings.begins_file.Given as goal
+use Rattle.syntax_places.proofs.beginnings.ending_of.Given as goal
 
 -- none of the endings so far serves
 abbrev pub invariant-loop-number : goal.invariant-loop-number
