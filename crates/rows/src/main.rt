@@ -6,6 +6,7 @@ mod calls;
 mod journal;
 mod lists;
 mod names;
+mod openings;
 mod owners;
 mod paths;
 mod reports;
@@ -103,7 +104,11 @@ fn answer_devices(alloc: Global, call: &Call, devices: &mut Devices) -> Result<S
         known => return known,
     }
     match disk_calls::answer(alloc, call, devices) {
-        Err(Fault::Unknown) => journal::answer(alloc, call, devices),
+        Err(Fault::Unknown) => {}
+        known => return known,
+    }
+    match journal::answer(alloc, call, devices) {
+        Err(Fault::Unknown) => openings::answer(alloc, call, devices),
         known => known,
     }
 }

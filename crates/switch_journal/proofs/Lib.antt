@@ -10,6 +10,7 @@ pub mod FoundSlots
 pub mod GatedTells
 pub mod SaidWhen
 pub mod Numbered
+pub mod OneReading
 pub mod Openings
 pub mod Outside
 pub mod Read

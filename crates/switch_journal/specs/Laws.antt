@@ -2,8 +2,11 @@
 use Rattle.std.specs.Prelude.{◌≡◌, ℕ, List, Bool, IsTrue}
 use Rattle.std.specs.FinMap.{get}
 use Rattle.crash_disk.specs.Disks.{Tree}
+use Rattle.crash_disk.specs.declared.batch.Write.{Write}
+use Rattle.switch_journal.specs.Contents.{Contents}
+use Rattle.switch_journal.specs.Journal.{Head, IsReadAt}
 use Rattle.switch_journal.specs.Places.{is_inside}
-use Rattle.switch_journal.specs.Reading.{Outcome, Reads}
+use Rattle.switch_journal.specs.Reading.{Outcome, Reads, Says}
 use Rattle.switch_journal.specs.Texts.{HoldsFrom, slot_at}
 
 -- files hold at most one list of counted records
@@ -26,3 +29,18 @@ OneOutcome = (tree : Tree) (one other : Outcome) → Reads tree one → Reads tr
 -- files that are the same there say the same
 abbrev pub SayTheSameInside : Type 0
 SayTheSameInside = (tree image : Tree) → AgreeInside tree image → (outcome : Outcome) → Reads tree outcome → Reads image outcome
+
+-- files are read with one set of numbers, say one thing, and have one last record's work
+abbrev pub OneReading : Type 0
+OneReading = (tree : Tree) (head other : Head) (c said : Contents) (work last : List Write) → IsReadAt head c work tree → IsReadAt other said last tree → (head ≡ other) × (c ≡ said) × (work ≡ last)
+
+-- files that are read so, with some numbers and some work
+pub record IsReadSo (tree : Tree) (c : Contents) : Type 0 where
+  pub head : Head
+  pub work : List Write
+  pub reads : IsReadAt head c work tree
+
+-- what files say is what is read
+pub record WhatIsReadIsSaid : Type 0 where
+  pub says : (tree : Tree) (head : Head) (c : Contents) (work : List Write) → IsReadAt head c work tree → Reads tree (Says c)
+  pub reads : (tree : Tree) (c : Contents) → Reads tree (Says c) → IsReadSo tree c

@@ -23,17 +23,19 @@ use Rattle.switch_journal.specs.declared.opening.Opened.TheVariants as opened
 use Rattle.switch_journal.specs.declared.walk.Walked.{Walked}
 use Rattle.switch_journal.specs.declared.walk.Walked.TheVariants as walked
 
--- a disk's fault is answered only where one was counted, and one is counted only there
+-- the count of a disk's faults: it has risen where the disk is said to have failed, and else it is as it was
 abbrev pub CountsFault : {T : Type 0} → ℕ → ℕ → Result T OpenFault → Type 0
 CountsFault before now (Ok x) = now ≡ before
 CountsFault before now (Err fault.DiskFailed) = Rose before now
 CountsFault before now (Err fault.Memory) = now ≡ before
 CountsFault before now (Err (fault.NotAJournal path)) = now ≡ before
 
+-- besides, it never falls
 pub record CountedOpening {T : Type 0} (before now : ℕ) (result : Result T OpenFault) : Type 0 where
   pub later : before ≤ now
   pub counted : CountsFault before now result
 
+-- a disk's fault is answered only where one was counted, and one is counted only there
 abbrev pub FailsOpening : {D T : Type 0} → Ghosts D → D → D → Result T OpenFault → Type 0
 FailsOpening g old new result = CountedOpening (g.faults old) (g.faults new) result
 

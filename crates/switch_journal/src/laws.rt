@@ -1,5 +1,5 @@
 // Laws of reading, as functions that do nothing: what each ensures is proved.
-ghost use Rattle.switch_journal.specs.Laws.{OneListOfRecords, OneOutcome, ReadByTheirInside, SayTheSameInside};
+ghost use Rattle.switch_journal.specs.Laws.{OneListOfRecords, OneOutcome, OneReading, ReadByTheirInside, SayTheSameInside, WhatIsReadIsSaid};
 
 use journal_text::{one_record_for_bytes, one_slot_for_bytes};
 
@@ -24,4 +24,17 @@ pub fn readings_are_determined()
 /// What files say of a switch is told by the files of the journal alone.
 pub fn readings_are_of_the_journal()
     ensures { SayTheSameInside }
+{}
+
+/// Files are read with one set of numbers, say one thing, and have one last record's work.
+pub fn one_reading_of_files()
+    ensures { OneReading }
+{
+    one_record_for_bytes();
+    one_slot_for_bytes();
+}
+
+/// What files say is what is read, with some numbers and some work.
+pub fn what_is_read_is_said()
+    ensures { WhatIsReadIsSaid }
 {}
