@@ -4,7 +4,7 @@ use Rattle.std.specs.Result.{IfOk, OnOk}
 use Rattle.std.specs.declared.result.Result.{Result}
 use Rattle.std.specs.declared.result.Result.TheVariants.{Ok, Err}
 use Rattle.std.proofs.lemmas.Result.{IfOk-weaker}
-use Rattle.opam_syntax.specs.Reading.{IsPlaced, IsRefused}
+use Rattle.syntax_trees.specs.Faults.{IsFaultOf}
 use Rattle.syntax_trees.specs.Trees.{IsTextOf, items_of}
 use Rattle.syntax_trees.specs.declared.fault.SyntaxFault.{SyntaxFault}
 use Rattle.syntax_trees.specs.declared.fault.SyntaxFault.TheVariants.{Memory}
@@ -19,8 +19,7 @@ file_linted bytes file items r text are =
     IfOk-weaker r (λ all. items all ≡ file_findings (items_of file) file.places) (λ all. IsLinted bytes (items all))
     (λ all is. subst (IsLinted bytes) (sym is) (a_file text)) are
 
-pub syntax_linted : {X E : Type 0} (bytes : List ℕ) (fault : SyntaxFault) (items : X → List Finding) (r : Result X E) → IsRefused bytes fault
-    → IsPlaced bytes fault → OnOk r (fault ≢ Memory) → IfOk r (λ all. items all ≡ syntax_finding fault ∷ []) → IfOk r (λ all. IsLinted bytes (items all))
-syntax_linted bytes fault items (Ok all) refused placed known is =
-    subst (IsLinted bytes) (sym is) (no_file (record { known = known; refused = refused; placed = placed }))
-syntax_linted bytes fault items (Err e) refused placed known is = tt
+pub syntax_linted : {X E : Type 0} (bytes : List ℕ) (fault : SyntaxFault) (items : X → List Finding) (r : Result X E) → IsFaultOf bytes fault
+    → OnOk r (fault ≢ Memory) → IfOk r (λ all. items all ≡ syntax_finding fault ∷ []) → IfOk r (λ all. IsLinted bytes (items all))
+syntax_linted bytes fault items (Ok all) told known is = subst (IsLinted bytes) (sym is) (no_file known told)
+syntax_linted bytes fault items (Err e) told known is = tt

@@ -1,6 +1,6 @@
 -- What is found in the bytes of an opam file: why they are none, or else what is found in the file whose text they are.
 use Rattle.std.specs.Prelude.{◌≢◌, ℕ, List, [], ◌∷◌}
-use Rattle.opam_syntax.specs.Reading.{IsPlaced, IsRefused}
+use Rattle.syntax_trees.specs.Faults.{IsFaultOf}
 use Rattle.syntax_trees.specs.Trees.{IsTextOf, items_of}
 use Rattle.syntax_trees.specs.declared.fault.SyntaxFault.{SyntaxFault}
 use Rattle.syntax_trees.specs.declared.fault.SyntaxFault.TheVariants.{Ended, Stray, Deep, Doubled, Memory}
@@ -30,13 +30,7 @@ syntax_place Memory = 0
 abbrev pub syntax_finding : SyntaxFault → Finding
 syntax_finding fault = finding (syntax_code fault) (syntax_place fault) (Fault (Syntax fault))
 
--- the bytes are the text of no file, and the reader tells this of them; want of memory is no such thing
-pub record IsToldOf (bytes : List ℕ) (fault : SyntaxFault) : Type 0 where
-  pub known : fault ≢ Memory
-  pub refused : IsRefused bytes fault
-  pub placed : IsPlaced bytes fault
-
--- the bytes are no file, or else these are the findings of the file whose text they are
+-- the bytes have this fault, which is no want of memory; or else these are the findings of the file whose text they are
 pub data IsLinted (bytes : List ℕ) : List Finding → Type 0 where
-  no_file : {fault : SyntaxFault} → IsToldOf bytes fault → IsLinted bytes (syntax_finding fault ∷ [])
+  no_file : {fault : SyntaxFault} → fault ≢ Memory → IsFaultOf bytes fault → IsLinted bytes (syntax_finding fault ∷ [])
   a_file : {file : File} → IsTextOf bytes file → IsLinted bytes (file_findings (items_of file) file.places)

@@ -8,5 +8,5 @@ returns-in-Ok c = record {
 
 pub returns-in-Err : goal.returns-in-Err
 returns-in-Err c = record {
-  found = syntax_linted c.args.bytes.now c.in-Err.fault (λ all. all.items) c.lint_syntax.result c.in-Err.ensures.refused c.in-Err.ensures.placed c.lint_syntax.ensures.known c.lint_syntax.ensures.value;
+  found = syntax_linted c.args.bytes.now c.in-Err.fault (λ all. all.items) c.lint_syntax.result c.in-Err.ensures.err c.lint_syntax.ensures.known c.lint_syntax.ensures.value;
 }
