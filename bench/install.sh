@@ -26,7 +26,7 @@ done
 work=$(mktemp -d)
 trap 'rm -rf "$work"' EXIT
 mkdir -p "$work/crates/jobs/src" "$work/crates/jobs/specs" "$work/crates/jobs/proofs"
-libraries="opam_names syntax_trees syntax_faults opam_syntax opam_filter package_vars opam_package install_sections outside_io build_env"
+libraries="opam_names syntax_trees syntax_faults syntax_places opam_syntax opam_filter package_vars opam_package install_sections outside_io build_env"
 for crate in $libraries; do
     cp -R "$top/crates/$crate" "$work/crates/$crate"
     rm -rf "$work/crates/$crate/out"

@@ -20,7 +20,7 @@ work=$(mktemp -d)
 trap 'rm -rf "$work"' EXIT
 program=$work/crates/linter
 mkdir -p "$program/src" "$program/specs" "$program/proofs"
-libraries="opam_names syntax_trees syntax_faults opam_syntax opam_filter opam_package opam_lint"
+libraries="opam_names syntax_trees syntax_faults syntax_places opam_syntax opam_filter opam_package opam_lint"
 for crate in $libraries; do
     cp -R "$top/crates/$crate" "$work/crates/$crate"
     rm -rf "$work/crates/$crate/out"

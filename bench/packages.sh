@@ -28,7 +28,7 @@ work=$(mktemp -d)
 trap 'rm -rf "$work"' EXIT
 program=$work/crates/finder
 mkdir -p "$program/src" "$program/specs" "$program/proofs"
-libraries="opam_names syntax_trees syntax_faults opam_syntax opam_filter opam_package outside_io folder_repo"
+libraries="opam_names syntax_trees syntax_faults syntax_places opam_syntax opam_filter opam_package outside_io folder_repo"
 for crate in $libraries; do
     cp -R "$top/crates/$crate" "$work/crates/$crate"
     rm -rf "$work/crates/$crate/out"

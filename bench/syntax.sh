@@ -34,11 +34,11 @@ work=$(mktemp -d)
 trap 'rm -rf "$work"' EXIT
 program=$work/crates/syntax_reader
 mkdir -p "$program/src"
-for crate in opam_names syntax_trees syntax_faults opam_syntax; do
+for crate in opam_names syntax_trees syntax_faults syntax_places opam_syntax; do
     cp -R "$top/crates/$crate" "$work/crates/$crate"
     rm -rf "$work/crates/$crate/out"
 done
-grep -E '^(opam_names|syntax_trees|syntax_faults|opam_syntax):' "$top/crates.txt" >"$work/crates.txt"
+grep -E '^(opam_names|syntax_trees|syntax_faults|syntax_places|opam_syntax):' "$top/crates.txt" >"$work/crates.txt"
 echo 'syntax_reader: opam_names syntax_trees opam_syntax' >>"$work/crates.txt"
 
 cat >"$program/src/main.rt" <<'RATTLE'
