@@ -14,12 +14,12 @@ use Rattle.opam_package.specs.PackageFaults.{first_fault}
 use Rattle.opam_package.specs.PackageTexts.{IsPackageFault, no_memory, no_file, faulty}
 use Rattle.opam_package.specs.declared.fault.PackageFault.{PackageFault}
 use Rattle.opam_package.specs.declared.fault.PackageFault.TheVariants.{Memory}
-use Rattle.opam_syntax.specs.Laws.{OneTreeForBytes}
+use Rattle.syntax_trees.specs.Laws.{OneTreeForBytes}
 use Rattle.opam_syntax.specs.Reading.{IsRefused}
-use Rattle.opam_syntax.specs.Trees.{IsTextOf, items_of}
-use Rattle.opam_syntax.specs.declared.fault.SyntaxFault.{SyntaxFault}
-use Rattle.opam_syntax.specs.declared.fault.SyntaxFault.TheVariants as syntax
-use Rattle.opam_syntax.specs.declared.file.File.{File}
+use Rattle.syntax_trees.specs.Trees.{IsTextOf, items_of}
+use Rattle.syntax_trees.specs.declared.fault.SyntaxFault.{SyntaxFault}
+use Rattle.syntax_trees.specs.declared.fault.SyntaxFault.TheVariants as syntax
+use Rattle.syntax_trees.specs.declared.file.File.{File}
 use Rattle.switch_state.specs.OpamTexts.{IsFoundKept, IsIfAccepted, IsKeptBy, IsKeptIn, IsOpamText, SaysAccepted}
 
 -- ---- opam texts

@@ -4,8 +4,8 @@ use Rattle.std.specs.FinMap.{get}
 use Rattle.std.specs.declared.option.Option.{Option}
 use Rattle.std.specs.declared.option.Option.TheVariants.{None, Some}
 use Rattle.opam_names.specs.declared.packages.Pkg.{Pkg}
-use Rattle.opam_syntax.specs.Trees.{IsTextOf, items_of}
-use Rattle.opam_syntax.specs.declared.file.File.{File}
+use Rattle.syntax_trees.specs.Trees.{IsTextOf, items_of}
+use Rattle.syntax_trees.specs.declared.file.File.{File}
 use Rattle.opam_package.specs.FieldFaults.{file_faults}
 use Rattle.opam_package.specs.declared.limits.TheConstants.{OPAM_LIMIT}
 use Rattle.owner_map.specs.Owning.{is_same_pkg}

@@ -18,9 +18,9 @@ use journal_text::{KeptFiles, RECORD_LIMIT, Rec, decode, one_record_for_bytes};
 use opam_filter::Vars;
 use opam_names::{Items, OutOfMemory, Pkg};
 use opam_package::{OPAM_LIMIT, PackageFault, read_package};
-use opam_syntax::one_tree_for_bytes;
 use std::alloc::Global;
 use switch_journal::{Done, record_path_of};
+use syntax_trees::one_tree_for_bytes;
 
 impl Switch {
     /// What was kept of a package that the open request removed; None exactly where its record is gone, is too long, or spells no
