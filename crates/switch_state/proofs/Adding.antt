@@ -31,7 +31,7 @@ or_right false b is = is
 neither : (a b c : Bool) → a ≡ false → b ≡ false → c ≡ false → (a || b || c) ≡ false
 neither a b c one two three = rw (one, two, three) refl
 
-same_bytes : (p q : List ℕ) → bytes_eq p q ≡ true → p ≡ q
+pub same_bytes : (p q : List ℕ) → bytes_eq p q ≡ true → p ≡ q
 same_bytes p q is = (bytes_eq-Decides p q).0 is
 
 -- a later path does not meet an earlier one

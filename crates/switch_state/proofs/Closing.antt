@@ -97,7 +97,7 @@ outside_stays number ready tree image made same = λ q out.
 -- ---- before anything is written
 
 -- files that are the same everywhere come to the same
-comes_now : {head : Head} {c : Contents} {files : Tree} {told : Option Told} → (s : StandsFor head c files told) → (image : Tree) → ((q : List ℕ) → get image q ≡ get s.tree q) → ComesTo c files image
+pub comes_now : {head : Head} {c : Contents} {files : Tree} {told : Option Told} → (s : StandsFor head c files told) → (image : Tree) → ((q : List ℕ) → get image q ≡ get s.tree q) → ComesTo c files image
 comes_now {files = files} s image same = comes_there s.reads files image (record {
   same_slots = slots_inside s.tree image (λ q inside. same q);
   counted = holds_inside (first_number (counting s.reads.zero s.reads.one)) (texts_of s.reads.counted) s.tree image (λ q inside. same q) (texts_held s.reads.counted);

@@ -7,3 +7,14 @@ pub mod Closing
 pub mod SoundKept
 pub mod SoundLeft
 pub mod Aparts
+pub mod Parts
+pub mod Gathered
+pub mod Removing
+pub mod Accepted
+pub mod Inside
+pub mod Beginning
+pub mod Slotted
+pub mod Closings
+pub mod Slotting
+pub mod Told
+pub mod Following

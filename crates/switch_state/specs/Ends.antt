@@ -1,9 +1,12 @@
 -- A request is ended: none is open then, and of what was asked for the names that are installed are left. This project's own.
-use Rattle.std.specs.Prelude.{◌⊎◌, ℕ, List, filter, Bool, bytes_eq}
+use Rattle.std.specs.Prelude.{◌⊎◌, ℕ, List, filter, Bool, bytes_eq, IsFalse}
 use Rattle.std.specs.List.{list_any}
 use Rattle.std.specs.declared.option.Option.TheVariants.{None}
 use Rattle.opam_package.specs.declared.package.Member.{Member}
 use Rattle.crash_disk.specs.Disks.{Tree}
+use Rattle.crash_disk.specs.Effects.{Touches, is_one}
+use Rattle.crash_disk.specs.declared.disk.Disk.{Ghosts}
+use Rattle.switch_journal.specs.Places.{is_inside}
 use Rattle.switch_state.specs.State.{Recovers, SwitchState}
 
 -- the package has this name
@@ -21,3 +24,9 @@ state_ended state = record { members = state.members; owned = state.owned; roots
 -- an opening makes the state before the end of it, or the one after it
 abbrev pub IsAroundEnd : SwitchState → Tree → Tree → Type 0
 IsAroundEnd state files image = Recovers state files image ⊎ Recovers (state_ended state) files image
+
+-- from then to now the disk has changed at paths in the journal's folder alone, at each moment
+pub record TouchesInside {D : Type 0} (g : Ghosts D) (old new : D) : Type 0 where
+  pub paths : List (List ℕ)
+  pub inside : (q : List ℕ) → IsFalse (is_inside q) → IsFalse (is_one paths q)
+  pub touches : Touches g paths old new

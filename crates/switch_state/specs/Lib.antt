@@ -4,3 +4,9 @@ pub mod Prepares
 pub mod Ends
 pub mod Sound
 pub mod SoundLaws
+pub mod WellFormed
+pub mod Keeps
+pub mod Begins
+pub mod OpamTexts
+pub mod Gathering
+pub mod Telling

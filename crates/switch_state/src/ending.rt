@@ -7,7 +7,7 @@ ghost use Rattle.crash_disk.specs.Stops.{StopsLeave};
 ghost use Rattle.crash_disk.specs.declared.disk.DiskFault.TheVariants.{Memory};
 ghost use Rattle.switch_journal.specs.Journal.{AgreeOutside};
 ghost use Rattle.switch_journal.specs.Steps.{with_one_more};
-ghost use Rattle.switch_state.specs.Ends.{IsAroundEnd, is_called, is_entry_name, state_ended};
+ghost use Rattle.switch_state.specs.Ends.{IsAroundEnd, TouchesInside, is_called, is_entry_name, state_ended};
 ghost use Rattle.switch_state.specs.Prepares.{CanAct};
 ghost use Rattle.switch_state.specs.State.{SwitchStands};
 
@@ -28,6 +28,7 @@ impl Switch {
         ensures head { OnOk result (self.new.head ≡ with_one_more self.old.head) }
         ensures state { OnOk result (self.new.state ≡ state_ended self.old.state) }
         ensures commits { OnOk result (self.new.commits ≡ self.old.commits) }
+        ensures inside { TouchesInside D.Disk disk.old disk.new }
         // The switch's own files stay as they are, whenever the machine stops.
         ensures files { (tree : Tree) → D.told disk.old ≡ Some (at_rest tree)
             → StopsLeave D.Disk (AgreeOutside tree) disk.old disk.new }
@@ -70,7 +71,8 @@ fn installed_names(members: &[Member], names: Items<Name>) -> Items<Name>
     Items::from_vec(rest)
 }
 
-fn is_entry_name(members: &[Member], name: &Name) -> bool
+// Whether a member has the name.
+pub(crate) fn is_entry_name(members: &[Member], name: &Name) -> bool
     ensures { result ≡ is_entry_name members.now name.now }
 {
     for member in members {

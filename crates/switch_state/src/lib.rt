@@ -2,11 +2,15 @@
 //! the journal, each change of them one commit.
 #![tactic(auto)]
 
+mod begins;
 mod ending;
+mod kept_files;
 mod laws;
 mod prepared;
 mod preparing;
+mod removals;
 mod request;
+mod slots;
 mod switch;
 mod taking;
 
@@ -14,5 +18,6 @@ pub use laws::{
     installs_keep_sound, put_backs_keep_sound, removals_keep_sound, the_empty_state_is_sound,
 };
 pub use prepared::{Change, Prepared, Receipt};
+pub use removals::KEPT_LIMIT;
 pub use request::OpenRequest;
 pub use switch::Switch;

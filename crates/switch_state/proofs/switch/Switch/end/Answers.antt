@@ -6,6 +6,8 @@ use Rattle.switch_journal.specs.Steps as steps
 use Rattle.switch_state.specs.Ends.{IsAroundEnd}
 use Rattle.switch_state.specs.State.{Now}
 use Rattle.switch_state.proofs.Closing.{around, can_step, outside_stays, stands_after, step, stops_now}
+use Rattle.switch_journal.specs.Commits.{paths_of_ready}
+use Rattle.switch_state.proofs.Inside.{inside_none, ready_inside}
 use Rattle.switch_state.proofs.switch.Switch.end.Goals as goal
 
 pub returns-in_err-ready-clause-crash : goal.returns-in_err-ready-clause-crash
@@ -38,3 +40,12 @@ returns-clause-done g c = λ files can.
     let here = subst (λ (h : Head). steps.CanCommit h (step can c.requires made) c.in_ok-ready.ready (g.D.Disk.told c.args.disk.now)) (sym head) (can_step can c.requires made) in
     stands_after can c.requires made (g.D.Disk.told c.commit.new.disk)
     (subst (λ (h : Head). StandsFor h (step can c.requires made).after files (g.D.Disk.told c.commit.new.disk)) (c.in-Ok.ensures.numbers ∙ ap steps.with_one_more head) (c.in-Ok.ensures.done (step can c.requires made) here))
+
+pub returns-in_err-ready-clause-inside : goal.returns-in_err-ready-clause-inside
+returns-in_err-ready-clause-inside g c = inside_none c.args.disk.now
+
+pub returns-in-Err-clause-inside : goal.returns-in-Err-clause-inside
+returns-in-Err-clause-inside g c = record { paths = paths_of_ready c.in_ok-ready.ready; inside = ready_inside _ End c.in_ok-ready.ready c.in_ok-ready.ensures; touches = c.commit.ensures.touches }
+
+pub returns-clause-inside : goal.returns-clause-inside
+returns-clause-inside g c = record { paths = paths_of_ready c.in_ok-ready.ready; inside = ready_inside _ End c.in_ok-ready.ready c.in_ok-ready.ensures; touches = c.commit.ensures.touches }
