@@ -233,6 +233,17 @@ fn main(rt: HostRuntime) -> io::Result<()> {
 }
 RATTLE
 
+# What the loop of the chase keeps.
+mkdir -p "$program/proofs/chased"
+cat >"$program/proofs/chased/Invariants.antt" <<'ANTT'
+use Rattle.std.proofs.Common.{◌≡◌, []}
+use Rattle.lock_check.specs.Chased.{held_by_name}
+use Rattle.planner.proofs.chased.Given as goal
+
+abbrev pub invariant-loop-i : goal.invariant-loop-i
+invariant-loop-i l = l.chase.installed ≡ held_by_name []
+ANTT
+
 (cd "$program" && rt run) >"$work/log" 2>&1 </dev/null || true
 if [ ! -x "$program/out/planner" ]; then
     echo "bench/plan.sh: the program is not built:" >&2
