@@ -1,6 +1,6 @@
 -- When a state is sound: what is installed runs on what stands before it and agrees, its paths clash with none, and what is left of an
 -- open request can be done. This project's own. Packages are those of the members of the state, as they were read from their opam texts.
-use Rattle.std.specs.Prelude.{◌≡◌, ℕ, List, [], ◌∷◌, ◌++◌, map, filter, drop, length, reverse, Bool, true, false, not, bytes_eq, ◌&&◌, ◌||◌, IsTrue, IsFalse, IsSome, IfSome}
+use Rattle.std.specs.Prelude.{◌≡◌, ℕ, List, [], ◌∷◌, ◌++◌, map, filter, drop, length, reverse, Bool, true, false, not, bytes_eq, ◌&&◌, ◌||◌, IsTrue, IsFalse, IsSome, IfSome, if◌then◌else◌}
 use Rattle.std.specs.FinMap.{get}
 use Rattle.std.specs.List.{IsDistinct, list_all, list_any}
 use Rattle.opam_names.specs.ByteOrders.{precedes}
@@ -163,11 +163,20 @@ abbrev pub goes_on_so : List Member → List Pkg → List Pkg → Bool
 goes_on_so installs listed [] = true
 goes_on_so installs listed (pkg ∷ more) = list_any (is_next_install installs listed pkg) installs && goes_on_so installs (listed ++ pkg ∷ []) more
 
--- the installs stand in an order without end in a cycle, and those that are done stand first in it
+-- of an order: these packages stand in it, as it has them
+abbrev pub stand_among : List Pkg → List Pkg → Bool
+stand_among [] [] = true
+stand_among [] (pkg ∷ more) = false
+stand_among (next ∷ order) [] = true
+stand_among (next ∷ order) (pkg ∷ more) = if is_same_pkg next pkg then stand_among order more else stand_among order (pkg ∷ more)
+
+-- the installs stand in an order without end in a cycle, and those that are done were done in this order; one that failed may be
+-- left out
 pub record AreInOrder (installs : List Member) (done : List Pkg) : Type 0 where
-  pub left : List Pkg
-  pub steps : IsTrue (goes_on_so installs [] (done ++ left))
-  pub whole : IsTrue (list_all (is_listed (done ++ left)) installs)
+  pub order : List Pkg
+  pub steps : IsTrue (goes_on_so installs [] order)
+  pub whole : IsTrue (list_all (is_listed order) installs)
+  pub done_so : IsTrue (stand_among order done)
 
 -- what is left of an open request can be done
 pub record RequestIsSound (state : SwitchState) (request : Request) : Type 0 where
