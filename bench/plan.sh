@@ -10,7 +10,8 @@
 # conflicts that nothing meets, and two classes, one of its own and one that the next has too.
 #
 # The aims: together below 300 ms at 4,000, and at most 6 times as long as at 1,000. Views are as long as what they show: in one
-# chain of all packages they have 8 million packages at 4,000, so that no such set is here.
+# chain of all packages they have 8 million packages at 4,000, so that no such set is here. The script was never run to its end,
+# so nothing is measured yet.
 # Usage: bench/plan.sh [COUNT ..]
 set -eu
 top=$(cd "$(dirname "$0")/.." && pwd)
@@ -27,7 +28,7 @@ work=$(mktemp -d)
 trap 'rm -rf "$work"' EXIT
 program=$work/crates/planner
 mkdir -p "$program/src" "$program/specs" "$program/proofs"
-base="opam_names syntax_trees syntax_faults opam_syntax opam_filter package_vars opam_package action_graph lock_check"
+base="opam_names syntax_trees syntax_faults syntax_places opam_syntax opam_filter package_vars opam_package action_graph lock_check"
 for crate in $base; do
     cp -R "$top/crates/$crate" "$work/crates/$crate"
     rm -rf "$work/crates/$crate/out"
