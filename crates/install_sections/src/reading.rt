@@ -5,7 +5,7 @@ ghost use Rattle.syntax_trees.specs.Trees.{contents_of, items_of};
 ghost use Rattle.install_sections.specs.InstallFaults.{IsFirstOf, first_fault};
 ghost use Rattle.install_sections.specs.Placements as placements;
 ghost use Rattle.install_sections.specs.Placements.{excess_faults, faults_in, items_in, placements_in};
-ghost use Rattle.install_sections.specs.Readings.{IsInstallText, IsRefusedInstall};
+ghost use Rattle.install_sections.specs.Readings.{IsInstallText, IsRefusedInstall, told_install_syntax};
 
 use crate::judging::{judge_file, sooner};
 use crate::limits::ITEM_LIMIT;
@@ -74,7 +74,15 @@ pub fn read_install(
 {
     match read_file(alloc, bytes) {
         Ok(file) => placements_of(alloc, &file, name),
-        Err(SyntaxFault::Memory) => Err(InstallFault::Memory),
-        Err(fault) => Err(InstallFault::Syntax(fault)),
+        Err(fault) => Err(told_syntax(fault)),
+    }
+}
+
+fn told_syntax(fault: SyntaxFault) -> InstallFault
+    ensures { result ≡ told_install_syntax fault }
+{
+    match fault {
+        SyntaxFault::Memory => InstallFault::Memory,
+        _ => InstallFault::Syntax(fault),
     }
 }

@@ -6,7 +6,7 @@ use Rattle.std.specs.declared.result.Result.{Result}
 use Rattle.std.specs.declared.result.Result.TheVariants.{Ok, Err}
 use Rattle.opam_names.specs.ByteOrders.{in_order_by}
 use Rattle.opam_names.specs.declared.packages.Pkg.{Pkg}
-use Rattle.opam_syntax.specs.Reading.{IsDoubledWhereTold, IsRefused}
+use Rattle.syntax_trees.specs.Faults.{IsFaultOf}
 use Rattle.syntax_trees.specs.Trees.{IsTextOf}
 use Rattle.syntax_trees.specs.declared.fault.SyntaxFault.{SyntaxFault}
 use Rattle.syntax_trees.specs.declared.fault.SyntaxFault.TheVariants as syntax
@@ -55,13 +55,13 @@ read_err bytes file items (Err fault) text same is =
     let P : List Node → Type 0 = λ nodes. IsFirstLockFault (faults_behind [] nodes) fault in of_file bytes file fault text (subst P same is)
 
 -- a fault of the syntax
-of_syntax : (bytes : List ℕ) (fault : SyntaxFault) → IsRefused bytes fault → IsDoubledWhereTold bytes fault → IsLockFault bytes (told_lock_syntax fault)
-of_syntax bytes syntax.Memory refused doubled = no_memory
-of_syntax bytes (syntax.Ended at) refused doubled = no_file (λ e. cc) refused doubled
-of_syntax bytes (syntax.Stray at) refused doubled = no_file (λ e. cc) refused doubled
-of_syntax bytes (syntax.Deep at) refused doubled = no_file (λ e. cc) refused doubled
-of_syntax bytes (syntax.Doubled at) refused doubled = no_file (λ e. cc) refused doubled
+of_syntax : (bytes : List ℕ) (fault : SyntaxFault) → IsFaultOf bytes fault → IsLockFault bytes (told_lock_syntax fault)
+of_syntax bytes syntax.Memory is = no_memory
+of_syntax bytes (syntax.Ended at) is = no_file (λ e. cc) is
+of_syntax bytes (syntax.Stray at) is = no_file (λ e. cc) is
+of_syntax bytes (syntax.Deep at) is = no_file (λ e. cc) is
+of_syntax bytes (syntax.Doubled at) is = no_file (λ e. cc) is
 
-pub told_so : (bytes : List ℕ) (fault : SyntaxFault) (told : LockFault) → told ≡ told_lock_syntax fault → IsRefused bytes fault → IsDoubledWhereTold bytes fault → IsLockFault bytes told
-told_so bytes fault told is refused doubled =
-    let P : LockFault → Type 0 = λ f. IsLockFault bytes f in subst P (sym is) (of_syntax bytes fault refused doubled)
+pub told_so : (bytes : List ℕ) (fault : SyntaxFault) (told : LockFault) → told ≡ told_lock_syntax fault → IsFaultOf bytes fault → IsLockFault bytes told
+told_so bytes fault told so is =
+    let P : LockFault → Type 0 = λ f. IsLockFault bytes f in subst P (sym so) (of_syntax bytes fault is)

@@ -4,7 +4,7 @@ use Rattle.std.specs.declared.option.Option.{Option}
 use Rattle.std.specs.declared.option.Option.TheVariants.{Some}
 use Rattle.opam_names.specs.declared.packages.Pkg.{Pkg}
 use Rattle.syntax_trees.specs.Lookup.{field_value}
-use Rattle.opam_syntax.specs.Reading.{IsDoubledWhereTold, IsRefused}
+use Rattle.syntax_trees.specs.Faults.{IsFaultOf}
 use Rattle.syntax_trees.specs.Trees.{IsTextOf}
 use Rattle.syntax_trees.specs.declared.fault.SyntaxFault.{SyntaxFault}
 use Rattle.syntax_trees.specs.declared.fault.SyntaxFault.TheVariants as syntax
@@ -35,8 +35,8 @@ told_lock_syntax (syntax.Stray at) = Syntax (syntax.Stray at)
 told_lock_syntax (syntax.Deep at) = Syntax (syntax.Deep at)
 told_lock_syntax (syntax.Doubled at) = Syntax (syntax.Doubled at)
 
--- memory was wanting, or the bytes are no file, or this is the first fault of the file whose text they are
+-- memory was wanting, or this is the fault of the bytes, which are no file, or the first fault of the file whose text they are
 pub data IsLockFault (bytes : List ℕ) : LockFault → Type 0 where
   no_memory : IsLockFault bytes Memory
-  no_file : {fault : SyntaxFault} → fault ≢ syntax.Memory → IsRefused bytes fault → IsDoubledWhereTold bytes fault → IsLockFault bytes (Syntax fault)
+  no_file : {fault : SyntaxFault} → fault ≢ syntax.Memory → IsFaultOf bytes fault → IsLockFault bytes (Syntax fault)
   faulty : {file : File} {fault : LockFault} → IsTextOf bytes file → first_lock_fault (lock_faults (depends_of file)) ≡ Some fault → IsLockFault bytes fault

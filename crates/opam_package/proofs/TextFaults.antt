@@ -4,7 +4,7 @@ use Rattle.std.specs.Result.{IfErr, IfOk, OnOk}
 use Rattle.std.specs.declared.result.Result.{Result}
 use Rattle.std.specs.declared.result.Result.TheVariants.{Ok, Err}
 use Rattle.opam_names.specs.declared.packages.Pkg.{Pkg}
-use Rattle.opam_syntax.specs.Reading.{IsDoubledWhereTold, IsRefused}
+use Rattle.syntax_trees.specs.Faults.{IsFaultOf}
 use Rattle.syntax_trees.specs.Trees.{IsTextOf, items_of}
 use Rattle.syntax_trees.specs.declared.fault.SyntaxFault.{SyntaxFault}
 use Rattle.syntax_trees.specs.declared.fault.SyntaxFault.TheVariants as syntax
@@ -37,14 +37,14 @@ read_err bytes pkg file (Ok found) text is = tt
 read_err bytes pkg file (Err fault) text is = of_file bytes pkg file fault text is
 
 -- a fault of the syntax
-pub of_syntax : (bytes : List ℕ) (pkg : Pkg) (fault : SyntaxFault) → IsRefused bytes fault → IsDoubledWhereTold bytes fault → IsPackageFault bytes pkg (told_syntax fault)
-of_syntax bytes pkg syntax.Memory refused doubled = no_memory
-of_syntax bytes pkg (syntax.Ended at) refused doubled = no_file (λ e. cc) refused doubled
-of_syntax bytes pkg (syntax.Stray at) refused doubled = no_file (λ e. cc) refused doubled
-of_syntax bytes pkg (syntax.Deep at) refused doubled = no_file (λ e. cc) refused doubled
-of_syntax bytes pkg (syntax.Doubled at) refused doubled = no_file (λ e. cc) refused doubled
+pub of_syntax : (bytes : List ℕ) (pkg : Pkg) (fault : SyntaxFault) → IsFaultOf bytes fault → IsPackageFault bytes pkg (told_syntax fault)
+of_syntax bytes pkg syntax.Memory is = no_memory
+of_syntax bytes pkg (syntax.Ended at) is = no_file (λ e. cc) is
+of_syntax bytes pkg (syntax.Stray at) is = no_file (λ e. cc) is
+of_syntax bytes pkg (syntax.Deep at) is = no_file (λ e. cc) is
+of_syntax bytes pkg (syntax.Doubled at) is = no_file (λ e. cc) is
 
-pub told_so : (bytes : List ℕ) (pkg : Pkg) (fault : SyntaxFault) (told : PackageFault) → told ≡ told_syntax fault → IsRefused bytes fault → IsDoubledWhereTold bytes fault
+pub told_so : (bytes : List ℕ) (pkg : Pkg) (fault : SyntaxFault) (told : PackageFault) → told ≡ told_syntax fault → IsFaultOf bytes fault
     → IsPackageFault bytes pkg told
-told_so bytes pkg fault told is refused doubled =
-    let P : PackageFault → Type 0 = λ f. IsPackageFault bytes pkg f in subst P (sym is) (of_syntax bytes pkg fault refused doubled)
+told_so bytes pkg fault told so is =
+    let P : PackageFault → Type 0 = λ f. IsPackageFault bytes pkg f in subst P (sym so) (of_syntax bytes pkg fault is)

@@ -2,7 +2,7 @@
 use Rattle.std.specs.Prelude.{◌≡◌, ◌≢◌, ℕ, List, []}
 use Rattle.std.specs.declared.option.Option.TheVariants.{Some}
 use Rattle.opam_names.specs.declared.packages.Pkg.{Pkg}
-use Rattle.opam_syntax.specs.Reading.{IsDoubledWhereTold, IsRefused}
+use Rattle.syntax_trees.specs.Faults.{IsFaultOf}
 use Rattle.syntax_trees.specs.Trees.{IsTextOf, items_of}
 use Rattle.syntax_trees.specs.declared.fault.SyntaxFault.{SyntaxFault}
 use Rattle.syntax_trees.specs.declared.fault.SyntaxFault.TheVariants as syntax
@@ -30,8 +30,8 @@ told_syntax (syntax.Stray at) = Syntax (syntax.Stray at)
 told_syntax (syntax.Deep at) = Syntax (syntax.Deep at)
 told_syntax (syntax.Doubled at) = Syntax (syntax.Doubled at)
 
--- memory was wanting, or the bytes are no file, or this is the first fault of the file whose text they are
+-- memory was wanting, or this is the fault of the bytes, which are no file, or the first fault of the file whose text they are
 pub data IsPackageFault (bytes : List ℕ) (pkg : Pkg) : PackageFault → Type 0 where
   no_memory : IsPackageFault bytes pkg Memory
-  no_file : {fault : SyntaxFault} → fault ≢ syntax.Memory → IsRefused bytes fault → IsDoubledWhereTold bytes fault → IsPackageFault bytes pkg (Syntax fault)
+  no_file : {fault : SyntaxFault} → fault ≢ syntax.Memory → IsFaultOf bytes fault → IsPackageFault bytes pkg (Syntax fault)
   faulty : {file : File} {fault : PackageFault} → IsTextOf bytes file → first_fault (file_faults pkg (items_of file)) ≡ Some fault → IsPackageFault bytes pkg fault

@@ -13,7 +13,7 @@ use Rattle.syntax_trees.specs.Nesting.{AreShallow}
 use Rattle.syntax_trees.specs.ParsingEntries.{HasNoShallow}
 use Rattle.syntax_trees.specs.Read.{read_entries}
 use Rattle.syntax_trees.specs.Faults.{IsDerived, IsFaultOf, IsNowhereDeep}
-use Rattle.opam_syntax.specs.Reading.{IsDoubledWhereTold, IsRefused}
+use Rattle.opam_syntax.specs.Reading.{IsRefused}
 use Rattle.syntax_trees.specs.Tokens.{Placed, AreTokens}
 use Rattle.syntax_trees.specs.Trees.{HasEntries, IsTextOf}
 use Rattle.syntax_trees.proofs.Doubling.{twice_is_doubled}
@@ -42,20 +42,13 @@ no_shallow bytes tokens p none nowhere (entries, (others, q, r)) =
     let f = file_tokens_follow tokens entries derived in
     none entries derived (below_shallow tokens entries derived (nowhere_below bytes tokens f.0 nowhere p f.1))
 
--- a fault of the bytes refuses them, and is of a doubled name where it says so
+-- a fault of the bytes refuses them
 pub fault_refused : (bytes : List ℕ) (fault : SyntaxFault) → IsFaultOf bytes fault → IsRefused bytes fault
 fault_refused bytes Memory f = tt
 fault_refused bytes (Ended at) f = λ file t. let g = faultless bytes file (Ended at) t f in cc
 fault_refused bytes (Stray at) f = λ file t. let g = faultless bytes file (Stray at) t f in cc
 fault_refused bytes (Deep at) f = λ file t. let g = faultless bytes file (Deep at) t f in cc
 fault_refused bytes (Doubled at) f = λ file t. let g = faultless bytes file (Doubled at) t f in cc
-
-pub fault_doubled : (bytes : List ℕ) (fault : SyntaxFault) → IsFaultOf bytes fault → IsDoubledWhereTold bytes fault
-fault_doubled bytes Memory f = tt
-fault_doubled bytes (Ended at) f = tt
-fault_doubled bytes (Stray at) f = tt
-fault_doubled bytes (Deep at) f = tt
-fault_doubled bytes (Doubled at) f = f.1
 
 -- the fault of an assembled file: a doubled name of shallow items
 doubled_told : (bytes : List ℕ) (tokens : List Placed) (entries : List ReadEntry) (fault : SyntaxFault) → AreTokens (length bytes) bytes tokens

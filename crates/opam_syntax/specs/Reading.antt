@@ -3,7 +3,6 @@ use Rattle.std.specs.Prelude.{ℕ, List}
 use Rattle.syntax_trees.specs.declared.fault.SyntaxFault.{SyntaxFault}
 use Rattle.syntax_trees.specs.declared.fault.SyntaxFault.TheVariants.{Ended, Stray, Deep, Doubled, Memory}
 use Rattle.syntax_trees.specs.declared.file.File.{File}
-use Rattle.syntax_trees.specs.Faults.{IsDoubledAt}
 use Rattle.syntax_trees.specs.Trees.{IsTextOf}
 
 -- the bytes are the text of no file
@@ -17,11 +16,3 @@ IsRefused bytes (Ended at) = IsNoFile bytes
 IsRefused bytes (Stray at) = IsNoFile bytes
 IsRefused bytes (Deep at) = IsNoFile bytes
 IsRefused bytes (Doubled at) = IsNoFile bytes
-
--- a doubled name is the first that an earlier one equals
-abbrev pub IsDoubledWhereTold : List ℕ → SyntaxFault → Type 0
-IsDoubledWhereTold bytes (Doubled at) = IsDoubledAt bytes at
-IsDoubledWhereTold bytes Memory = Unit {0}
-IsDoubledWhereTold bytes (Ended at) = Unit {0}
-IsDoubledWhereTold bytes (Stray at) = Unit {0}
-IsDoubledWhereTold bytes (Deep at) = Unit {0}

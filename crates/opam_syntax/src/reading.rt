@@ -3,7 +3,7 @@
 ghost use Rattle.std.specs.Prelude.{◌≡◌, ◌≢◌, ◌≤◌, length, IfErr, IfOk};
 ghost use Rattle.syntax_trees.specs.Faults.{IsDerived, IsFaultOf, IsNowhereDeep};
 ghost use Rattle.syntax_trees.specs.Read.{placed_tokens};
-ghost use Rattle.opam_syntax.specs.Reading.{IsDoubledWhereTold, IsNoFile, IsRefused};
+ghost use Rattle.opam_syntax.specs.Reading.{IsNoFile, IsRefused};
 ghost use Rattle.syntax_trees.specs.Tokens.{AreTokens};
 ghost use Rattle.syntax_trees.specs.Trees.{IsTextOf};
 
@@ -21,7 +21,6 @@ pub fn read_file(alloc: Global, bytes: &[u8]) -> Result<File, SyntaxFault>
     ensures ok { IfOk result (λ file. IsTextOf bytes.now file) }
     ensures err { IfErr result (IsFaultOf bytes.now) }
     ensures refused { IfErr result (IsRefused bytes.now) }
-    ensures doubled { IfErr result (IsDoubledWhereTold bytes.now) }
 {
     match read(alloc, bytes) {
         Ok(file) => Ok(file),

@@ -15,25 +15,16 @@ use Rattle.opam_package.specs.PackageTexts.{IsPackageFault, no_memory, no_file, 
 use Rattle.opam_package.specs.declared.fault.PackageFault.{PackageFault}
 use Rattle.opam_package.specs.declared.fault.PackageFault.TheVariants.{Memory}
 use Rattle.syntax_trees.specs.Laws.{OneTreeForBytes}
-use Rattle.opam_syntax.specs.Reading.{IsRefused}
 use Rattle.syntax_trees.specs.Trees.{IsTextOf, items_of}
-use Rattle.syntax_trees.specs.declared.fault.SyntaxFault.{SyntaxFault}
-use Rattle.syntax_trees.specs.declared.fault.SyntaxFault.TheVariants as syntax
+use Rattle.syntax_trees.proofs.NowhereDeep.{faultless}
 use Rattle.syntax_trees.specs.declared.file.File.{File}
 use Rattle.switch_state.specs.OpamTexts.{IsFoundKept, IsIfAccepted, IsKeptBy, IsKeptIn, IsOpamText, SaysAccepted}
 
 -- ---- opam texts
 
-no_file_of : (text : List ℕ) (fault : SyntaxFault) (file : File) → fault ≢ syntax.Memory → IsRefused text fault → IsTextOf text file → ⊥
-no_file_of text syntax.Memory file other refused is = other refl
-no_file_of text (syntax.Ended at) file other refused is = refused file is
-no_file_of text (syntax.Stray at) file other refused is = refused file is
-no_file_of text (syntax.Deep at) file other refused is = refused file is
-no_file_of text (syntax.Doubled at) file other refused is = refused file is
-
 pub opam_refused : OneTreeForBytes → (pkg : Pkg) (text : List ℕ) (fault : PackageFault) → IsPackageFault text pkg fault → fault ≢ Memory → IsOpamText pkg text → ⊥
 opam_refused one pkg text fault no_memory other is = other refl
-opam_refused one pkg text fault (no_file {fault = f} not_memory refused doubled) other is = no_file_of text f is.file not_memory refused is.is_text
+opam_refused one pkg text fault (no_file {fault = f} not_memory fault_is) other is = not_memory (faultless text is.file f is.is_text fault_is)
 opam_refused one pkg text fault (faulty {file = file} is_text first) other is =
     let none : file_faults pkg (items_of file) ≡ [] = ap (file_faults pkg) (one text file is.file is_text is.is_text).0 ∙ is.faultless in
     let e : None ≡ Some fault = sym (ap first_fault none) ∙ first in
