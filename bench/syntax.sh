@@ -6,15 +6,17 @@
 # takes; and the most memory that a process held, less what it held with the texts loaded. The reader is proved and built in
 # a copy, which takes minutes.
 #
-# Aims, and what falls short of them (measured on 4 processors beside several provers, which slows the C loop to half, and by
-# an earlier form of the measuring part, whose runs were shorter; this form was tried on texts of an eighth alone):
-# - 50 MB/s. Texts of a few bytes a token have less: 11 to 17 small fields, 12 to 16 a list of texts of one byte, 3 deep
-#   nests; one section of short fields 35. Long texts have 220 and more, comments 640.
-# - Five times `opam-file-format`: 4.6 to 6 for small fields, 7 to 12 for the list; 2 for deep nests.
-# - At most 40 times the C loop: 100 to 130 for small fields, 100 to 120 for the list, 530 to 630 for deep nests.
-# - At most 100 bytes of memory a byte of text: 212 for deep nests; 42 and less for all others.
-# - 4 MiB in at most five times the time of 1 MiB: met where the text has many tokens. Long texts and comments go through
-#   the cache of the processor at 1 MiB, and not at 4.
+# Aims, and what falls short of them (one whole run, on 4 processors beside several provers; no opam files were found on that
+# machine, so these were left out):
+# - 50 MB/s. Texts of a few bytes a token have less: 12 to 13 small fields, 15 to 18 a list of texts of one byte, 3 deep nests,
+#   17 to 19 small fields with a doubled name at the end. One section of short fields has 58 to 246, long texts 484 and more,
+#   comments 509 and more.
+# - Five times `opam-file-format`: 4.3 to 5.4 for small fields, 4.0 to 5.4 with a doubled name, 5.4 to 8.7 for the list, 5.8 to
+#   7.8 for the section, 11 for long texts, 4.7 to 10 for comments; 1.1 to 1.3 for deep nests.
+# - At most 40 times the C loop: 110 to 126 for small fields, 112 to 141 for the list, 560 to 744 for deep nests; 36 and less for
+#   the section, 4.3 and less for long texts and comments.
+# - At most 100 bytes of memory a byte of text: 213 for deep nests; 42 and less for all others.
+# - 4 MiB in at most five times the time of 1 MiB: 4.0 to 4.4 times for each kind, 1.6 for the section.
 # Where the time goes (perf): a token takes its 64 bytes of the vector between the two passes, and a node 64 more, so a
 # quarter is the system's, which hands out fresh pages; a quarter to a third is `malloc`, `free` and `memmove` of tokens and
 # nodes. In deep nests each bracket goes through the eight levels of the grammar, each of which moves the result, and a list of
