@@ -20,3 +20,4 @@ pub mod TargetLaws
 pub mod Differing
 pub mod Conflicts
 pub mod Classes
+pub mod ChaseEnds

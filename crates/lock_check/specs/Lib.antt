@@ -9,6 +9,7 @@ pub mod Removals
 pub mod Passes
 pub mod Needed
 pub mod Chased
+pub mod ChaseLaws
 pub mod Growth
 pub mod Chasing
 pub mod Installs

@@ -1,4 +1,5 @@
-// Laws of targets, each proved as a clause of a function that does nothing.
+// Laws of targets and of a chase, each proved as a clause of a function that does nothing.
+ghost use Rattle.lock_check.specs.ChaseLaws.{ChasesEnd};
 ghost use Rattle.lock_check.specs.TargetLaws.{InstalledStays, LeastIsOne, LeastIsThere, NoneIsLeftOut, NothingAgainstIsMet, NothingAgainstIsPeace, UnionIsMet};
 
 use crate::held::Held;
@@ -50,3 +51,8 @@ pub fn installed_stays()
 {
     order_is_stable::<Held>();
 }
+
+/// A chase ends: there are at most as many answers as bound packages.
+pub fn chases_end()
+    ensures { ChasesEnd }
+{}

@@ -26,8 +26,8 @@ pub use chase::Chase;
 pub use differ::names_differ;
 pub use held::Held;
 pub use laws::{
-    installed_stays, least_is_one, least_is_there, none_is_left_out, nothing_against_is_met,
-    nothing_against_is_peace, union_is_met,
+    chases_end, installed_stays, least_is_one, least_is_there, none_is_left_out,
+    nothing_against_is_met, nothing_against_is_peace, union_is_met,
 };
 pub use lock::Lock;
 pub use lock_fault::LockFault;
