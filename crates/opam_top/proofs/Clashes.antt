@@ -8,8 +8,8 @@ use Rattle.std.proofs.lemmas.List.{drop_more, take-append-drop, take_more}
 use Rattle.std.proofs.lemmas.Slice.Eq.{bytes_eq-Decides}
 use Rattle.opam_names.specs.Paths.{is_above, is_more_after_slash}
 use Rattle.opam_names.specs.declared.packages.Pkg.{Pkg}
-use Rattle.action_report.specs.declared.decision.Reason.{Reason}
-use Rattle.action_report.specs.declared.decision.Reason.TheVariants.{Owned}
+use Rattle.opam_top.specs.declared.decision.Reason.{Reason}
+use Rattle.opam_top.specs.declared.decision.Reason.TheVariants.{Owned}
 use Rattle.outside_io.specs.Counts.{ByPath}
 use Rattle.opam_top.proofs.Tests.{both, both_left, both_right}
 use Rattle.crash_disk.specs.Disks.{Tree}

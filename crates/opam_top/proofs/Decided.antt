@@ -2,7 +2,7 @@
 use Rattle.std.proofs.Common.{◌≡◌, ℕ, List, Result, sym, ap, ◌∙◌}
 use Rattle.std.specs.FinMap.{get}
 use Rattle.opam_names.specs.declared.packages.Pkg.{Pkg}
-use Rattle.action_report.specs.declared.decision.Reason.{Reason}
+use Rattle.opam_top.specs.declared.decision.Reason.{Reason}
 use Rattle.outside_io.specs.Counts.{ByPath}
 use Rattle.outside_io.specs.Shops.{Told}
 use Rattle.outside_io.specs.declared.workshop.Fate.{Fate}

@@ -6,8 +6,8 @@ use Rattle.std.specs.FinMap.{get, insert, keys}
 use Rattle.std.proofs.lemmas.Slice.Eq.{bytes_eq-Decides}
 use Rattle.opam_names.specs.Paths.{is_above}
 use Rattle.opam_names.specs.declared.packages.Pkg.{Pkg}
-use Rattle.action_report.specs.declared.decision.Reason.{Reason}
-use Rattle.action_report.specs.declared.decision.Reason.TheVariants.{InstallTooLong}
+use Rattle.opam_top.specs.declared.decision.Reason.{Reason}
+use Rattle.opam_top.specs.declared.decision.Reason.TheVariants.{InstallTooLong}
 use Rattle.outside_io.specs.Counts.{ByPath}
 use Rattle.outside_io.specs.Shops.{Told}
 use Rattle.outside_io.specs.declared.workshop.Fate.{Fate}

@@ -5,8 +5,8 @@ use Rattle.std.specs.List.{flat_map, list_all}
 use Rattle.std.proofs.Math.Nat.{le_trans}
 use Rattle.std.proofs.lemmas.Bool.{cases_Bool}
 use Rattle.std.proofs.lemmas.List.{append-nil}
-use Rattle.action_report.specs.Reports.{is_done, is_installed, line_of, report, summary}
-use Rattle.action_report.specs.declared.decision.Decision.{Decision}
+use Rattle.opam_top.specs.Reports.{is_done, is_installed, line_of, report, summary}
+use Rattle.opam_top.specs.declared.decision.Decision.{Decision}
 use Rattle.outside_io.specs.Counts.{Quiet, Rose}
 use Rattle.outside_io.specs.Sinks.{Got, GotPrefix}
 use Rattle.crash_disk.specs.Disks.{State, Tree}

@@ -29,5 +29,6 @@ pub mod Progressed
 pub mod Quotes
 pub mod Sourced
 pub mod Spelled
+pub mod Summaries
 pub mod Tests
 pub mod Wholes

@@ -16,10 +16,10 @@ use Rattle.std.proofs.lemmas.List.{append-nil, drop_more, take-append-drop, take
 use Rattle.std.proofs.lemmas.List.Folds.{list_all_at}
 use Rattle.std.proofs.lemmas.List.Sums.{count_by-le-length, fold_more}
 use Rattle.opam_names.specs.declared.packages.Pkg.{Pkg}
-use Rattle.action_report.specs.Reports.{is_installed, line_of}
-use Rattle.action_report.specs.declared.decision.Decision.{Decision}
-use Rattle.action_report.specs.declared.decision.Decision.TheVariants.{Installed, Failed}
-use Rattle.action_report.specs.declared.decision.Reason.{Reason}
+use Rattle.opam_top.specs.Reports.{is_installed, line_of}
+use Rattle.opam_top.specs.declared.decision.Decision.{Decision}
+use Rattle.opam_top.specs.declared.decision.Decision.TheVariants.{Installed, Failed}
+use Rattle.opam_top.specs.declared.decision.Reason.{Reason}
 use Rattle.outside_io.specs.Counts.{Rose}
 use Rattle.outside_io.specs.Shops.{Told, fate_of}
 use Rattle.outside_io.specs.Sinks.{Got, GotPrefix}

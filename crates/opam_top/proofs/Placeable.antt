@@ -4,8 +4,8 @@ use Rattle.std.specs.Prelude.{nat_le, map}
 use Rattle.std.specs.List.{AllByRecursion, list_all}
 use Rattle.std.proofs.lemmas.Bool.Decides.{nat_tests}
 use Rattle.opam_names.specs.declared.packages.Pkg.{Pkg}
-use Rattle.action_report.specs.declared.decision.Reason.{Reason}
-use Rattle.action_report.specs.declared.decision.Reason.TheVariants.{SwitchFull}
+use Rattle.opam_top.specs.declared.decision.Reason.{Reason}
+use Rattle.opam_top.specs.declared.decision.Reason.TheVariants.{SwitchFull}
 use Rattle.outside_io.specs.Counts.{ByPath}
 use Rattle.opam_top.specs.InstallTexts.{is_item}
 use Rattle.opam_top.specs.Installs.{if_room}

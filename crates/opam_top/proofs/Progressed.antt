@@ -7,10 +7,10 @@ use Rattle.std.proofs.Math.Nat.{le_trans}
 use Rattle.std.proofs.lemmas.Bool.Decides.{nat_tests}
 use Rattle.std.proofs.lemmas.List.Sums.{sum_by-append}
 use Rattle.opam_names.specs.declared.packages.Pkg.{Pkg}
-use Rattle.action_report.specs.Reports.{is_installed}
-use Rattle.action_report.specs.declared.decision.Decision.{Decision}
-use Rattle.action_report.specs.declared.decision.Decision.TheVariants.{Installed, Failed}
-use Rattle.action_report.specs.declared.decision.Reason.{Reason}
+use Rattle.opam_top.specs.Reports.{is_installed}
+use Rattle.opam_top.specs.declared.decision.Decision.{Decision}
+use Rattle.opam_top.specs.declared.decision.Decision.TheVariants.{Installed, Failed}
+use Rattle.opam_top.specs.declared.decision.Reason.{Reason}
 use Rattle.outside_io.specs.Shops.{Told, fate_of}
 use Rattle.outside_io.specs.declared.workshop.Fate.{Fate}
 use Rattle.outside_io.specs.declared.workshop.Job.{Job}

@@ -5,8 +5,8 @@ use Rattle.std.specs.List.{list_all}
 use Rattle.std.specs.FinMap.{get}
 use Rattle.std.proofs.lemmas.List.{drop_more, length-map, map-append, take_more}
 use Rattle.opam_top.proofs.Tests.{both_left, both_right}
-use Rattle.action_report.specs.declared.decision.Reason.{Reason}
-use Rattle.action_report.specs.declared.decision.Reason.TheVariants.{FilesTooLong}
+use Rattle.opam_top.specs.declared.decision.Reason.{Reason}
+use Rattle.opam_top.specs.declared.decision.Reason.TheVariants.{FilesTooLong}
 use Rattle.outside_io.specs.Counts.{ByPath}
 use Rattle.opam_top.specs.InstallTexts.{is_item}
 use Rattle.opam_top.specs.Placements.{bin_path, is_in_bin, is_bin_path, paths_of, placed_at, placed_from, prepend, source, total_bytes, with_source}

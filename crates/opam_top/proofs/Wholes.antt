@@ -3,9 +3,9 @@ use Rattle.std.proofs.Common.{◌≡◌, ◌+◌, List, [], ◌∷◌, ◌++◌,
 use Rattle.std.specs.Prelude.{count_by, fold}
 use Rattle.std.proofs.lemmas.List.{append-nil, map-append}
 use Rattle.opam_names.specs.declared.packages.Pkg.{Pkg}
-use Rattle.action_report.specs.Reports.{is_installed}
-use Rattle.action_report.specs.declared.decision.Decision.TheVariants.{Installed, Failed}
-use Rattle.action_report.specs.declared.decision.Reason.{Reason}
+use Rattle.opam_top.specs.Reports.{is_installed}
+use Rattle.opam_top.specs.declared.decision.Decision.TheVariants.{Installed, Failed}
+use Rattle.opam_top.specs.declared.decision.Reason.{Reason}
 use Rattle.outside_io.specs.Shops.{Told, fate_of}
 use Rattle.outside_io.specs.declared.workshop.Fate.{Fate}
 use Rattle.opam_top.specs.Installs.{job_of}

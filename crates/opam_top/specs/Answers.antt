@@ -4,8 +4,8 @@ use Rattle.std.specs.List.{flat_map, list_all}
 use Rattle.std.specs.FinMap.{get}
 use Rattle.std.specs.declared.option.Option.{Option}
 use Rattle.std.specs.declared.option.Option.TheVariants.{Some}
-use Rattle.action_report.specs.Reports.{is_done, is_installed, line_of, report}
-use Rattle.action_report.specs.declared.decision.Decision.{Decision}
+use Rattle.opam_top.specs.Reports.{is_done, is_installed, line_of, report}
+use Rattle.opam_top.specs.declared.decision.Decision.{Decision}
 use Rattle.outside_io.specs.Counts.{Files, Quiet}
 use Rattle.outside_io.specs.Sinks.{Got, GotPrefix}
 use Rattle.outside_io.specs.Shops.{Told}

@@ -5,7 +5,7 @@ use Rattle.std.specs.FinMap.{len}
 use Rattle.std.specs.declared.option.Option.{Option}
 use Rattle.std.specs.declared.option.Option.TheVariants.{Some}
 use Rattle.opam_names.specs.declared.packages.Pkg.{Pkg}
-use Rattle.action_report.specs.Reports.{is_installed}
+use Rattle.opam_top.specs.Reports.{is_installed}
 use Rattle.outside_io.specs.declared.workshop.Fate.{Fate}
 use Rattle.outside_io.specs.Counts.{Rose}
 use Rattle.outside_io.specs.Sinks.{Got, GotPrefix}

@@ -5,8 +5,8 @@ use Rattle.std.specs.FinMap.{get}
 use Rattle.std.specs.declared.option.Option.{Option}
 use Rattle.std.specs.declared.option.Option.TheVariants.{None, Some}
 use Rattle.opam_names.specs.declared.packages.Pkg.{Pkg}
-use Rattle.action_report.specs.declared.decision.Reason.{Reason}
-use Rattle.action_report.specs.declared.decision.Reason.TheVariants.{Step, InstallUnreadable, InstallTooLong, InstallNotBuilt, SwitchFull}
+use Rattle.opam_top.specs.declared.decision.Reason.{Reason}
+use Rattle.opam_top.specs.declared.decision.Reason.TheVariants.{Step, InstallUnreadable, InstallTooLong, InstallNotBuilt, SwitchFull}
 use Rattle.outside_io.specs.Counts.{ByPath}
 use Rattle.outside_io.specs.Shops.{Told}
 use Rattle.outside_io.specs.declared.workshop.Fate.{Fate}

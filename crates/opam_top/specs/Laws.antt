@@ -1,9 +1,9 @@
 -- What holds of every change. This project's own.
 use Rattle.std.specs.Prelude.{◌≡◌, List, count_by, length, map}
 use Rattle.opam_names.specs.declared.packages.Pkg.{Pkg}
-use Rattle.action_report.specs.Reports.{is_installed}
-use Rattle.action_report.specs.declared.decision.Decision.{Decision}
-use Rattle.action_report.specs.declared.decision.Decision.TheVariants.{Installed, Removed, Failed, Aborted}
+use Rattle.opam_top.specs.Reports.{is_installed}
+use Rattle.opam_top.specs.declared.decision.Decision.{Decision}
+use Rattle.opam_top.specs.declared.decision.Decision.TheVariants.{Installed, Removed, Failed, Aborted}
 use Rattle.outside_io.specs.Shops.{Told}
 use Rattle.outside_io.specs.declared.workshop.Fate.{Fate}
 use Rattle.opam_top.specs.Outcomes.{Outcome, outcome}

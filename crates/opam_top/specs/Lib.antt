@@ -16,6 +16,7 @@ pub mod Placements
 pub mod Readings
 pub mod Records
 pub mod Refusals
+pub mod Reports
 pub mod Requests
 pub mod Spellings
 pub mod Statuses

@@ -2,9 +2,9 @@
 use Rattle.std.specs.Prelude.{◌≡◌, ℕ, List, [], ◌∷◌, ◌++◌, IsFalse, Result, Ok, Err, fold}
 use Rattle.std.specs.FinMap.{get}
 use Rattle.opam_names.specs.declared.packages.Pkg.{Pkg}
-use Rattle.action_report.specs.declared.decision.Decision.{Decision}
-use Rattle.action_report.specs.declared.decision.Decision.TheVariants.{Installed, Failed}
-use Rattle.action_report.specs.declared.decision.Reason.{Reason}
+use Rattle.opam_top.specs.declared.decision.Decision.{Decision}
+use Rattle.opam_top.specs.declared.decision.Decision.TheVariants.{Installed, Failed}
+use Rattle.opam_top.specs.declared.decision.Reason.{Reason}
 use Rattle.outside_io.specs.Shops.{Told, fate_of}
 use Rattle.outside_io.specs.declared.workshop.Fate.{Fate}
 use Rattle.crash_disk.specs.Disks.{Tree}

@@ -9,8 +9,8 @@ use Rattle.std.specs.declared.option.Option.{Option}
 use Rattle.std.specs.declared.option.Option.TheVariants.{None, Some}
 use Rattle.opam_names.specs.Paths.{is_above}
 use Rattle.opam_names.specs.declared.packages.Pkg.{Pkg}
-use Rattle.action_report.specs.declared.decision.Reason.{Reason}
-use Rattle.action_report.specs.declared.decision.Reason.TheVariants.{Missing, Unreadable, FilesTooLong, Owned, Foreign}
+use Rattle.opam_top.specs.declared.decision.Reason.{Reason}
+use Rattle.opam_top.specs.declared.decision.Reason.TheVariants.{Missing, Unreadable, FilesTooLong, Owned, Foreign}
 use Rattle.outside_io.specs.Counts.{ByPath}
 use Rattle.crash_disk.specs.Disks.{Tree}
 use Rattle.crash_disk.specs.declared.disk.Look.{Look}

@@ -3,8 +3,8 @@
 
 ghost use Rattle.std.specs.Prelude.{◌≡◌, ◌≢◌, ◌<◌, ◌≤◌, ◌-◌, ◌+◌, ◌^◌, ◌++◌, [], ◌∷◌, ℕ, List, Some, Ok, Err, IfOk, IfErr, IsTrue, OnOk, OnErr, length, count_by, true, vec_len, vec_capacity};
 ghost use Rattle.std.specs.List.{list_all, flat_map};
-ghost use Rattle.action_report.specs.Reports.{line_of, is_installed};
-ghost use Rattle.action_report.specs.declared.decision.Decision.{Decision};
+ghost use Rattle.opam_top.specs.Reports.{line_of, is_installed};
+ghost use Rattle.opam_top.specs.declared.decision.Decision.{Decision};
 ghost use Rattle.child_pool.specs.Crews.{IsFresh, TellsFate};
 ghost use Rattle.outside_io.specs.Shops.{Told, fate_of};
 ghost use Rattle.crash_disk.specs.Disks.{State, Tree};
@@ -29,13 +29,14 @@ ghost use Rattle.opam_top.specs.declared.stops.Refusal.{Refusal};
 use crate::Receipt;
 use crate::commit::{Encoded, commit, make_ready};
 use crate::deciding::files_to_place;
+use crate::decision::{Decision, Reason};
 use crate::jobs::{fate_by, make_job};
+use crate::lines::line_of;
 use crate::member::Member;
 use crate::owners::own_files;
 use crate::records::Placed;
 use crate::stops::Stop;
 use crate::telling::say;
-use action_report::{Decision, Reason, line_of};
 use child_pool::Crew;
 use crash_disk::Disk;
 use opam_names::{Items, OutOfMemory, Pkg, RelPath};

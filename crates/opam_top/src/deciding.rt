@@ -17,12 +17,12 @@ ghost use Rattle.opam_top.specs.Records.{FilesFit};
 ghost use Rattle.opam_top.specs.Refusals.{Causes};
 ghost use Rattle.opam_top.specs.declared.stops.Refusal.{Refusal};
 
+use crate::decision::Reason;
 use crate::install_text;
 use crate::placing::{first_in_the_way, sorted};
 use crate::records::Placed;
 use crate::sources::sources_of;
 use crate::stops::Stop;
-use action_report::Reason;
 use crash_disk::Disk;
 use opam_names::{Items, OutOfMemory, Pkg, RelPath};
 use outside_io::{Fate, Job, Seen, Workshop};

@@ -1,15 +1,15 @@
 // How a run ends.
 ghost use Rattle.std.specs.Prelude.{◌≡◌, ◌≢◌, true, Err, codes};
 ghost use Rattle.std.specs.List.{list_all};
-ghost use Rattle.action_report.specs.Reports.{is_done};
+ghost use Rattle.opam_top.specs.Reports.{is_done};
 ghost use Rattle.outside_io.specs.Counts.{Quiet};
 ghost use Rattle.outside_io.specs.Sinks.{Got};
 ghost use Rattle.opam_top.specs.Answers.{status_at_end, status_by, with_output, status_by_stop, text_at_end, text_by_stop};
 
 use crate::Status;
+use crate::decision::Decision;
 use crate::stops::Stop;
 use crate::telling::tell;
-use action_report::Decision;
 use outside_io::Sink;
 
 // Says on standard error why a run has ended early. Where the output failed, that is said in place of success.

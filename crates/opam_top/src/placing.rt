@@ -16,11 +16,11 @@ ghost use Rattle.opam_top.specs.Refusals.{Causes};
 ghost use Rattle.opam_top.specs.Switches.{with_owner};
 ghost use Rattle.opam_top.specs.declared.stops.Refusal.{Refusal};
 
+use crate::decision::Reason;
 use crate::fresh::is_absent;
 use crate::owners::owner_of;
 use crate::records::Placed;
 use crate::stops::Stop;
-use action_report::Reason;
 use crash_disk::{Disk, Look};
 use opam_names::{Items, OutOfMemory, Pkg, RelPath};
 use outside_io::Failed;

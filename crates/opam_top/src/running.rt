@@ -4,7 +4,7 @@
 ghost use Rattle.std.specs.Prelude.{◌≡◌, ◌≢◌, ◌<◌, ◌≤◌, true, false, [], Some, Err, IfErr, OnOk, OnErr, IsTrue, codes, count_by, length, map, string_bytes};
 ghost use Rattle.std.specs.Arc.{arc_value};
 ghost use Rattle.std.specs.List.{list_all};
-ghost use Rattle.action_report.specs.Reports.{is_installed, summary};
+ghost use Rattle.opam_top.specs.Reports.{is_installed, summary};
 ghost use Rattle.outside_io.specs.Shops.{Told};
 ghost use Rattle.outside_io.specs.Counts.{Rose, Quiet, last_count};
 ghost use Rattle.outside_io.specs.Sinks.{Got, GotPrefix};
@@ -21,6 +21,7 @@ ghost use Rattle.opam_top.specs.declared.stops.Refusal.{Refusal};
 ghost use Rattle.crash_disk.specs.Disks.{State};
 
 use crate::change::{Progress, install_members};
+use crate::decision::Decision;
 use crate::ending::conclude;
 use crate::facts::Facts;
 use crate::front::members_to_install;
@@ -29,7 +30,7 @@ use crate::request::{Request, read_request};
 use crate::status::{Ended, Status};
 use crate::stops::Stop;
 use crate::telling::say;
-use action_report::{Decision, summary};
+use crate::totals::summary;
 use child_pool::SerialCrew;
 use crash_disk::Disk;
 use opam_names::{Items, OutOfMemory};

@@ -6,8 +6,8 @@ ghost use Rattle.outside_io.specs.Shops.{IsSeen, Told};
 ghost use Rattle.opam_top.specs.InstallTexts.{is_item};
 ghost use Rattle.opam_top.specs.Placements.{bin_path, first_room, is_in_bin, paths_of, placed_from, source, total_bytes};
 
+use crate::decision::Reason;
 use crate::records::Placed;
-use action_report::Reason;
 use opam_names::{Items, OutOfMemory, RelPath};
 use outside_io::{Job, Seen, Workshop};
 use std::alloc::Global;

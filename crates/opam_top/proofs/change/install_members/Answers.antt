@@ -2,7 +2,7 @@ use Rattle.opam_top.proofs.Dates.{dated_none, dated_part}
 use Rattle.outside_io.specs.Counts.{last_count}
 use Rattle.std.proofs.Common.{arith, ◌≡◌, ◌∙◌, ℕ, List, length, take, refl, sym, ap, subst, ◌<◌, []}
 use Rattle.std.specs.List.{flat_map}
-use Rattle.action_report.specs.Reports.{line_of}
+use Rattle.opam_top.specs.Reports.{line_of}
 use Rattle.opam_top.proofs.Passed.{passes_none, passes_then}
 use Rattle.opam_top.specs.Changes.{Says, Stands, AreDated}
 use Rattle.opam_top.specs.Outcomes.{Outcome, outcome}

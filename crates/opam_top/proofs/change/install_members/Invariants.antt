@@ -3,7 +3,7 @@ use Rattle.opam_top.specs.Outcomes.{outcome}
 use Rattle.outside_io.specs.Counts.{last_count}
 use Rattle.std.proofs.Common.{◌≡◌, ◌≤◌, ℕ, [], length, Some, true, ◌<◌, take}
 use Rattle.std.specs.List.{flat_map}
-use Rattle.action_report.specs.Reports.{line_of}
+use Rattle.opam_top.specs.Reports.{line_of}
 use Rattle.child_pool.specs.Crews.{IsFresh}
 use Rattle.outside_io.specs.Shops.{Told}
 use Rattle.crash_disk.specs.Disks.{State}

@@ -1,6 +1,6 @@
 use Rattle.std.proofs.Common.{◌≡◌, ℕ, List, Result, Ok, sym, ap, ◌∙◌}
 use Rattle.std.proofs.lemmas.Result.{IfOk-weaker}
-use Rattle.action_report.specs.declared.decision.Reason.{Reason}
+use Rattle.opam_top.specs.declared.decision.Reason.{Reason}
 use Rattle.opam_top.specs.Installs.{files_of_items, placed_by}
 use Rattle.opam_top.specs.Owners.{owners_of}
 use Rattle.opam_top.specs.declared.records.Placed.{Placed}

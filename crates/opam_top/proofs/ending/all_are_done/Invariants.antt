@@ -1,6 +1,6 @@
 use Rattle.std.proofs.Common.{◌≡◌, drop}
 use Rattle.std.specs.List.{list_all}
-use Rattle.action_report.specs.Reports.{is_done}
+use Rattle.opam_top.specs.Reports.{is_done}
 use Rattle.opam_top.proofs.ending.all_are_done.Given as goal
 
 abbrev pub invariant-loop-decision : goal.invariant-loop-decision

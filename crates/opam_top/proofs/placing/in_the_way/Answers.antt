@@ -1,5 +1,5 @@
 use Rattle.std.proofs.Common.{◌∙◌, sym, ap, not, Some, None}
-use Rattle.action_report.specs.declared.decision.Reason.TheVariants.{Foreign}
+use Rattle.opam_top.specs.declared.decision.Reason.TheVariants.{Foreign}
 use Rattle.opam_top.specs.Owners.{owners_of}
 use Rattle.opam_top.specs.Placements.{way_barred}
 use Rattle.opam_top.specs.Switches.{with_owner}

@@ -1,6 +1,6 @@
 use Rattle.std.proofs.Common.{List, OnOk, subst}
-use Rattle.action_report.specs.Reports.{summary}
-use Rattle.action_report.specs.declared.decision.Decision.{Decision}
+use Rattle.opam_top.specs.Reports.{summary}
+use Rattle.opam_top.specs.declared.decision.Decision.{Decision}
 use Rattle.opam_top.specs.Changes.{Says}
 use Rattle.opam_top.proofs.Ends.{sum_says}
 use Rattle.opam_top.proofs.Progressed.{always}

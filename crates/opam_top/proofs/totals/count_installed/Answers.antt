@@ -1,0 +1,12 @@
+use Rattle.std.proofs.Common.{rules, tests, ◌∙◌}
+use Rattle.std.proofs.lemmas.Iterator.Consumers.{count_from_yields_List, YieldsList-from_filter}
+use Rattle.std.proofs.lemmas.Iterator.{YieldsList-from_slice}
+use Rattle.std.proofs.lemmas.List.Sums.{length-filter}
+use Rattle.opam_top.specs.Reports.{is_installed}
+use Rattle.opam_top.proofs.totals.count_installed.Goals as goal
+
+pub returns : goal.returns
+returns c =
+    count_from_yields_List c.filter.result _ c.count.ensures.ran
+    (YieldsList-from_filter _ is_installed (YieldsList-from_slice c.args.decisions.now cc) c.filter.ensures.closure (λ x r q k. search (rules, tests)))
+    ∙ length-filter is_installed c.args.decisions.now
