@@ -61,7 +61,7 @@ old_len (PutBack pkg opam files) bytes is short = absurd cc
 old_len (Begin roots target removals) bytes is short = absurd cc
 old_len End bytes is short = absurd cc
 
-old_is_read : (entry : Rec) (bytes : List ℕ) → IsOldSpelledBy entry bytes → old_record_at bytes ≡ Some entry
+pub old_is_read : (entry : Rec) (bytes : List ℕ) → IsOldSpelledBy entry bytes → old_record_at bytes ≡ Some entry
 old_is_read entry bytes is = old_record_again entry bytes (rec_fits entry is.valid (old_len entry bytes is.bytes_are is.short)) is.bytes_are
 
 pub old_decoded : (bytes : List ℕ) (entry : Rec) (r : Result (Option Rec) OutOfMemory) → IsBytes bytes → length bytes ≤ RECORD_LIMIT → old_record_at bytes ≡ Some entry → Chosen entry r → IfOk r (λ found. IfSome found (λ e. IsOldSpelledBy e bytes))

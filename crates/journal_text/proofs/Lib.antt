@@ -1,4 +1,5 @@
 pub mod Apart
+pub mod Deciding
 pub mod Decoded
 pub mod Lengths
 pub mod Loop

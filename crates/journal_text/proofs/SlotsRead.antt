@@ -243,8 +243,8 @@ SlotChosen slot r = IfOk r (λ found. IfSome found (λ s. (s ≡ slot) × IsSlot
 abbrev pub SlotRefused : Snapshot → Result (Option Snapshot) OutOfMemory → Type 0
 SlotRefused slot r = IfOk r (λ found. IfNone found (¬ (IsSlotInOrder slot)))
 
-is_read : (slot : Snapshot) (bytes : List ℕ) → IsSlotSpelledBy slot bytes → slot_at bytes ≡ Some slot
-is_read slot bytes is =
+pub slot_is_read : (slot : Snapshot) (bytes : List ℕ) → IsSlotSpelledBy slot bytes → slot_at bytes ≡ Some slot
+slot_is_read slot bytes is =
     let lens = list_lens slot.entries slot.roots slot.owned (body_lens slot (omega (arith, is.short, ap length is.bytes_are, length-append (codes "OPAMSNP2") (slot_body slot)))) in
     ap slot_at is.bytes_are ∙ slot_again slot (slot_fits slot is.valid is.ordered lens.entries_are lens.roots_are lens.owned_are)
 
@@ -258,16 +258,16 @@ slot_decoded bytes slot (Ok (Some s)) fits short is chosen =
 pub slot_refused : (bytes : List ℕ) (slot : Snapshot) (r : Result (Option Snapshot) OutOfMemory) → slot_at bytes ≡ Some slot → SlotRefused slot r → IfOk r (λ found. IfNone found ((s : Snapshot) → ¬ (IsSlotSpelledBy s bytes)))
 slot_refused bytes slot (Err e) is none = tt
 slot_refused bytes slot (Ok (Some s)) is none = tt
-slot_refused bytes slot (Ok None) is none = λ s spelled. none (subst IsSlotInOrder (some_is s slot (sym (is_read s bytes spelled) ∙ is)) spelled.ordered)
+slot_refused bytes slot (Ok None) is none = λ s spelled. none (subst IsSlotInOrder (some_is s slot (sym (slot_is_read s bytes spelled) ∙ is)) spelled.ordered)
 
 pub slot_unread : (bytes : List ℕ) → slot_at bytes ≡ None → (s : Snapshot) → ¬ (IsSlotSpelledBy s bytes)
-slot_unread bytes is s spelled = let read = is_read s bytes spelled in absurd cc
+slot_unread bytes is s spelled = let read = slot_is_read s bytes spelled in absurd cc
 
 pub one_slot : (a b : Snapshot) (bytes : List ℕ) → IsSlotSpelledBy a bytes → IsSlotSpelledBy b bytes → a ≡ b
-one_slot a b bytes one other = some_is a b (sym (is_read a bytes one) ∙ is_read b bytes other)
+one_slot a b bytes one other = some_is a b (sym (slot_is_read a bytes one) ∙ slot_is_read b bytes other)
 
-old_is_read : (slot : Snapshot) (bytes : List ℕ) → IsOldSlotSpelledBy slot bytes → old_slot_at bytes ≡ Some slot
-old_is_read slot bytes is =
+pub old_slot_is_read : (slot : Snapshot) (bytes : List ℕ) → IsOldSlotSpelledBy slot bytes → old_slot_at bytes ≡ Some slot
+old_slot_is_read slot bytes is =
     let lens = old_slot_lens slot is.no_roots (omega (arith, is.short, ap length is.bytes_are, length-append (codes "OPAMSNP1") (old_body slot))) in
     ap old_slot_at is.bytes_are ∙ old_slot_again slot is.no_roots (slot_fits slot is.valid is.ordered lens.entries_are lens.roots_are lens.owned_are)
 
@@ -281,10 +281,10 @@ old_slot_decoded bytes slot (Ok (Some s)) fits short is chosen =
 pub old_slot_refused : (bytes : List ℕ) (slot : Snapshot) (r : Result (Option Snapshot) OutOfMemory) → old_slot_at bytes ≡ Some slot → SlotRefused slot r → IfOk r (λ found. IfNone found ((s : Snapshot) → ¬ (IsOldSlotSpelledBy s bytes)))
 old_slot_refused bytes slot (Err e) is none = tt
 old_slot_refused bytes slot (Ok (Some s)) is none = tt
-old_slot_refused bytes slot (Ok None) is none = λ s spelled. none (subst IsSlotInOrder (some_is s slot (sym (old_is_read s bytes spelled) ∙ is)) spelled.ordered)
+old_slot_refused bytes slot (Ok None) is none = λ s spelled. none (subst IsSlotInOrder (some_is s slot (sym (old_slot_is_read s bytes spelled) ∙ is)) spelled.ordered)
 
 pub old_slot_unread : (bytes : List ℕ) → old_slot_at bytes ≡ None → (s : Snapshot) → ¬ (IsOldSlotSpelledBy s bytes)
-old_slot_unread bytes is s spelled = let read = old_is_read s bytes spelled in absurd cc
+old_slot_unread bytes is s spelled = let read = old_slot_is_read s bytes spelled in absurd cc
 
 pub one_old_slot : (a b : Snapshot) (bytes : List ℕ) → IsOldSlotSpelledBy a bytes → IsOldSlotSpelledBy b bytes → a ≡ b
-one_old_slot a b bytes one other = some_is a b (sym (old_is_read a bytes one) ∙ old_is_read b bytes other)
+one_old_slot a b bytes one other = some_is a b (sym (old_slot_is_read a bytes one) ∙ old_slot_is_read b bytes other)

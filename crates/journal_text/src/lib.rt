@@ -20,7 +20,9 @@ mod writer;
 
 pub use decoding::{decode, decode_old};
 pub use encoding::encode;
-pub use laws::{one_record_for_bytes, one_slot_for_bytes};
+pub use laws::{
+    one_record_for_bytes, one_slot_for_bytes, record_or_none_for_bytes, slot_or_none_for_bytes,
+};
 pub use record::{Entry, KeptFiles, Placed, RECORD_LIMIT, Rec};
 pub use slot::{Owned, SLOT_LIMIT, Snapshot};
 pub use slot_decoding::{decode_old_slot, decode_slot};

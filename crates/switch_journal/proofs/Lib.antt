@@ -5,6 +5,7 @@ pub mod Coming
 pub mod CommitStops
 pub mod Committed
 pub mod Determined
+pub mod EachRead
 pub mod Exits
 pub mod FoundSlots
 pub mod GatedTells

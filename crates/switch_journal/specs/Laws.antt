@@ -26,6 +26,10 @@ ReadByTheirInside = (tree image : Tree) → AgreeInside tree image
 abbrev pub OneOutcome : Type 0
 OneOutcome = (tree : Tree) (one other : Outcome) → Reads tree one → Reads tree other → one ≡ other
 
+-- each map of files says something, or has a first bad file
+abbrev pub EachMapIsRead : Type 0
+EachMapIsRead = (tree : Tree) → (outcome : Outcome) × Reads tree outcome
+
 -- files that are the same there say the same
 abbrev pub SayTheSameInside : Type 0
 SayTheSameInside = (tree image : Tree) → AgreeInside tree image → (outcome : Outcome) → Reads tree outcome → Reads image outcome

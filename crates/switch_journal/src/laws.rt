@@ -1,7 +1,9 @@
 // Laws of reading, as functions that do nothing: what each ensures is proved.
-ghost use Rattle.switch_journal.specs.Laws.{OneListOfRecords, OneOutcome, OneReading, ReadByTheirInside, SayTheSameInside, WhatIsReadIsSaid};
+ghost use Rattle.switch_journal.specs.Laws.{EachMapIsRead, OneListOfRecords, OneOutcome, OneReading, ReadByTheirInside, SayTheSameInside, WhatIsReadIsSaid};
 
-use journal_text::{one_record_for_bytes, one_slot_for_bytes};
+use journal_text::{
+    one_record_for_bytes, one_slot_for_bytes, record_or_none_for_bytes, slot_or_none_for_bytes,
+};
 
 /// Files hold at most one list of counted records.
 pub fn records_are_determined()
@@ -19,6 +21,16 @@ pub fn readings_are_determined()
 {
     one_record_for_bytes();
     one_slot_for_bytes();
+}
+
+/// Each map of files says something of a switch, or has a first bad file.
+pub fn each_map_is_read()
+    ensures { EachMapIsRead }
+{
+    one_record_for_bytes();
+    one_slot_for_bytes();
+    record_or_none_for_bytes();
+    slot_or_none_for_bytes();
 }
 
 /// What files say of a switch is told by the files of the journal alone.

@@ -28,8 +28,9 @@ pub use gated::{Gated, read_record, read_slot};
 pub use journal::{Journal, RECORDS_TO_SLOT};
 pub use kept::Kept;
 pub use laws::{
-    a_journal_is_read_by_its_files, one_reading_of_files, readings_are_determined,
-    readings_are_of_the_journal, records_are_determined, what_is_read_is_said,
+    a_journal_is_read_by_its_files, each_map_is_read, one_reading_of_files,
+    readings_are_determined, readings_are_of_the_journal, records_are_determined,
+    what_is_read_is_said,
 };
 pub use places::{gate_path_of, record_path_of, slot_gate_of, slot_path_of};
 pub use request::{Done, ENTRY_LIMIT, OWNED_LIMIT, Open, TEXT_LIMIT};
