@@ -31,6 +31,7 @@ placed_bytes file = flag file.exec ++ (short_text file.path ++ long_text file.by
 abbrev pub contents_bytes : List ℕ → List Placed → List ℕ
 contents_bytes opam files = long_text opam ++ counted placed_bytes files
 
+-- what a removal keeps
 abbrev pub kept_bytes : KeptFiles → List ℕ
 kept_bytes kept = contents_bytes kept.opam kept.files
 
@@ -79,6 +80,7 @@ pub record IsRequestValid (roots : List (List ℕ)) (target : List Entry) (remov
 
 -- ---- in which order they stand
 
+-- the switch's own folder
 abbrev pub own_folder : List ℕ
 own_folder = codes ".opam-switch"
 
@@ -95,13 +97,15 @@ pub record AreFree (paths : List (List ℕ)) : Type 0 where
 abbrev pub paths_of : List Placed → List (List ℕ)
 paths_of files = map (λ (file : Placed). file.path) files
 
--- a name stands in byte order by itself, and an entry by the name of its package
+-- a name stands in byte order by itself
 abbrev pub own_name : List ℕ → List ℕ
 own_name name = name
 
+-- an entry stands in byte order by the name of its package
 abbrev pub entry_name : Entry → List ℕ
 entry_name entry = entry.pkg.name
 
+-- the names of packages
 abbrev pub names_of : List Pkg → List (List ℕ)
 names_of pkgs = map (λ (pkg : Pkg). pkg.name) pkgs
 

@@ -24,11 +24,12 @@ abbrev pub ◌>>=◌ : {A B : Type 0} → Option A → (A → Option B) → Opti
 (Some x) >>= f = f x
 None >>= f = None
 
--- what a function returned, seen by view, is what is read, unless memory was refused
+-- why nothing was returned: nothing is read there, or memory was refused
 abbrev pub Fails : {Y : Type 0} → Stop → Option Y → Type 0
 Fails Memory read = Unit {0}
 Fails Bad read = read ≡ None
 
+-- what a function returned, seen by view, is what is read, unless memory was refused
 abbrev pub Gives : {X Y : Type 0} → (X → Y) → Result X Stop → Option Y → Type 0
 Gives view (Ok x) read = read ≡ Some (view x)
 Gives view (Err e) read = Fails e read
@@ -56,10 +57,11 @@ text_at w bytes = do
   n ← number_at w bytes
   front_at n.0 n.1
 
--- a short text has two bytes of length, and a long one four
+-- a short text has two bytes of length
 abbrev pub short_at : List ℕ → Read (List ℕ)
 short_at = text_at w16
 
+-- a long text has four bytes of length
 abbrev pub long_at : List ℕ → Read (List ℕ)
 long_at = text_at w32
 
@@ -96,6 +98,7 @@ items_at one (suc n) bytes = do
   xs ← items_at one n x.1
   Some (x.0 ∷ xs.0, xs.1)
 
+-- their number, and so many values
 unfoldable pub counted_at : {X : Type 0} → (List ℕ → Read X) → List ℕ → Read (List X)
 counted_at one bytes = do
   n ← number_at w32 bytes
@@ -153,6 +156,7 @@ kept_at = both_at (λ opam files. record { opam = opam; files = files }) long_at
 abbrev pub coming_at : (Pkg → List ℕ → List Placed → Rec) → List ℕ → Read Rec
 coming_at make = both_at (λ pkg (kept : KeptFiles). make pkg kept.opam kept.files) pkg_at kept_at
 
+-- the parts of a package that goes
 abbrev pub removal_at : List ℕ → Read Rec
 removal_at = both_at (λ pkg kept. Remove pkg kept) pkg_at (optional_at kept_at)
 
@@ -160,9 +164,11 @@ removal_at = both_at (λ pkg kept. Remove pkg kept) pkg_at (optional_at kept_at)
 abbrev pub change_at : List ℕ → Read (List Entry × List Pkg)
 change_at = both_at (λ target removals. (target, removals)) (counted_at entry_at) (counted_at pkg_at)
 
+-- the parts of a request
 abbrev pub request_at : List ℕ → Read Rec
 request_at = both_at (λ roots (change : List Entry × List Pkg). Begin roots change.0 change.1) (counted_at name_at) change_at
 
+-- the kind of a record, and its parts
 unfoldable pub body_at : List ℕ → Read Rec
 body_at [] = None
 body_at (zero ∷ bytes) = None
@@ -173,6 +179,7 @@ body_at (suc (suc (suc (suc zero))) ∷ bytes) = Some (End, bytes)
 body_at (suc (suc (suc (suc (suc zero)))) ∷ bytes) = coming_at PutBack bytes
 body_at (suc (suc (suc (suc (suc (suc b))))) ∷ bytes) = None
 
+-- a whole record
 abbrev pub record_at : List ℕ → Option Rec
 record_at = whole_at (codes "OPAMREC2") body_at
 
@@ -182,6 +189,7 @@ old_removal_at bytes = do
   x ← pkg_at bytes
   Some (Remove x.0 None, x.1)
 
+-- the kind of an old record, and its parts
 unfoldable pub old_body_at : List ℕ → Read Rec
 old_body_at [] = None
 old_body_at (zero ∷ bytes) = None
@@ -189,5 +197,6 @@ old_body_at (suc zero ∷ bytes) = coming_at Install bytes
 old_body_at (suc (suc zero) ∷ bytes) = old_removal_at bytes
 old_body_at (suc (suc (suc b)) ∷ bytes) = None
 
+-- a whole old record
 abbrev pub old_record_at : List ℕ → Option Rec
 old_record_at = whole_at (codes "OPAMREC1") old_body_at

@@ -16,6 +16,7 @@ body_bytes (Begin roots target removals) = 3 ∷ request_bytes roots target remo
 body_bytes End = 4 ∷ []
 body_bytes (PutBack pkg opam files) = 5 ∷ coming_bytes pkg opam files
 
+-- a record's spelling: the bytes of its format, its kind and its parts
 abbrev pub record_bytes : Rec → List ℕ
 record_bytes entry = codes "OPAMREC2" ++ body_bytes entry
 

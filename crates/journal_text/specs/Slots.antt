@@ -25,6 +25,7 @@ lists_bytes entries roots owned = counted entry_bytes entries ++ (counted short_
 abbrev pub slot_body : Snapshot → List ℕ
 slot_body slot = to_be_bytes w64 slot.number ++ lists_bytes slot.entries slot.roots slot.owned
 
+-- a slot's spelling: the bytes of its format, and its parts
 abbrev pub slot_bytes : Snapshot → List ℕ
 slot_bytes slot = codes "OPAMSNP2" ++ slot_body slot
 
@@ -43,6 +44,7 @@ pub record IsSlotValid (slot : Snapshot) : Type 0 where
   pub number_fits : slot.number < 2 ^ 64
   pub lists_are : AreListsValid slot.entries slot.roots slot.owned
 
+-- the names of the packages of entries
 abbrev pub entry_names : List Entry → List (List ℕ)
 entry_names entries = map (λ (entry : Entry). entry.pkg.name) entries
 
@@ -54,6 +56,7 @@ is_among names name = list_any (has_key own_name name) names
 abbrev pub has_owner : ℕ → Owned → Bool
 has_owner count owned = nat_lt owned.owner count
 
+-- the paths that a slot lists
 abbrev pub owned_paths : List Owned → List (List ℕ)
 owned_paths owned = map (λ (o : Owned). o.path) owned
 

@@ -33,9 +33,11 @@ text_total (entry ∷ entries) = length entry.opam + text_total entries
 abbrev pub are_few : List Entry → Bool
 are_few entries = nat_le (length entries) ENTRY_LIMIT && nat_le (text_total entries) TEXT_LIMIT
 
+-- a switch owns no more paths than this
 abbrev pub are_few_paths : List OwnedPath → Bool
 are_few_paths owned = nat_le (length owned) OWNED_LIMIT
 
+-- the entry is of a package of this name
 abbrev pub is_named : List ℕ → Entry → Bool
 is_named name entry = bytes_eq name entry.pkg.name
 
@@ -47,6 +49,7 @@ is_of pkg entry = is_same_pkg entry.pkg pkg
 abbrev pub is_same_entry : Entry → Entry → Bool
 is_same_entry one other = is_same_pkg one.pkg other.pkg && bytes_eq one.opam other.opam
 
+-- the packages that are installed, with their opam texts
 abbrev pub entries_of : Contents → List Entry
 entries_of c = map entry_of c.standing
 
@@ -79,6 +82,7 @@ with_package from pkg opam files c = record {
   request = c.request;
 }
 
+-- what is installed is not that very package
 abbrev pub is_another : Pkg → Standing → Bool
 is_another pkg s = not (is_of pkg s.entry)
 
@@ -93,11 +97,13 @@ without_package pkg c = record {
 
 -- ---- the open request
 
+-- a package was removed
 abbrev pub is_removal : Done → Bool
 is_removal (done.Removed pkg number kept) = true
 is_removal (done.Installed pkg) = false
 is_removal (done.PutBack pkg) = false
 
+-- a package was put back
 abbrev pub is_put_back : Done → Bool
 is_put_back (done.Removed pkg number kept) = false
 is_put_back (done.Installed pkg) = false
@@ -109,6 +115,7 @@ is_kept_removal pkg (done.Removed gone number kept) = kept && is_same_pkg gone p
 is_kept_removal pkg (done.Installed other) = false
 is_kept_removal pkg (done.PutBack other) = false
 
+-- that very package was put back
 abbrev pub puts_back : Pkg → Done → Bool
 puts_back pkg (done.Removed gone number kept) = false
 puts_back pkg (done.Installed other) = false
@@ -126,6 +133,7 @@ are_removed request = removed_count request == length request.removals
 abbrev pub next_removal : Open → Option Pkg
 next_removal request = slice_get request.removals (removed_count request)
 
+-- the removal that comes next is of that very package
 abbrev pub is_next : Pkg → Option Pkg → Bool
 is_next pkg None = false
 is_next pkg (Some next) = is_same_pkg next pkg
@@ -147,6 +155,7 @@ is_before_all_back pkg request = not (list_any (is_back request) (up_to pkg requ
 abbrev pub and_done : Done → Open → Open
 and_done what request = record { from = request.from; target = request.target; removals = request.removals; done = request.done ++ what ∷ [] }
 
+-- what is said once the open request has done one thing more
 abbrev pub with_done : Done → Open → Contents → Contents
 with_done what request c = record { standing = c.standing; owned = c.owned; roots = c.roots; request = Some (and_done what request) }
 
@@ -180,6 +189,7 @@ put_back from pkg opam files c (Some request) =
 abbrev pub is_entry_with : Pkg → List ℕ → Entry → Bool
 is_entry_with pkg opam entry = is_of pkg entry && bytes_eq entry.opam opam
 
+-- the owner is that very package
 abbrev pub is_owner : Pkg → Option Pkg → Bool
 is_owner pkg None = false
 is_owner pkg (Some owner) = is_same_pkg owner pkg

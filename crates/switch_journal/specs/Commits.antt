@@ -10,6 +10,7 @@ use Rattle.switch_journal.specs.Places.{gate_path, gate_text, is_inside, record_
 use Rattle.switch_journal.specs.Texts.{Journal, RestsAs, TellsAs, next_number}
 use Rattle.switch_journal.specs.declared.commits.Ready.{Ready}
 
+-- a write changes none of the files below the folder `.opam-switch`
 abbrev pub is_outside : Write → Bool
 is_outside write = not (is_inside (path_of write))
 
@@ -17,9 +18,11 @@ is_outside write = not (is_inside (path_of write))
 abbrev pub entry_writes : ℕ → List ℕ → List Write
 entry_writes number text = Remove (gate_path (number + 1)) ∷ Put (record_path number) text false ∷ []
 
+-- the gate of the record stands
 abbrev pub gate_writes : ℕ → List Write
 gate_writes number = Put (gate_path number) gate_text false ∷ []
 
+-- what the commit of a record writes, in three batches: its bytes, its gate and its work
 abbrev pub ready_with : ℕ → List ℕ → List Write → Ready
 ready_with number text writes = record { entry = entry_writes number text; gate = gate_writes number; writes = writes }
 

@@ -44,6 +44,7 @@ pub record IsFitSlot (found : OpenSlot) : Type 0 where
   pub ordered : IsSlotInOrder found.slot
   pub small : found.slot.number < 2 ^ 63
 
+-- the slot that is read, if any, is fit
 abbrev pub IsFit : SlotRead → Type 0
 IsFit Bad = Unit {0}
 IsFit (Good found) = IfSome found IsFitSlot

@@ -22,9 +22,11 @@ use Rattle.switch_journal.specs.declared.journal.TheConstants.{RECORDS_TO_SLOT}
 
 -- ---- the work of a record
 
+-- a file of a record is put at its path
 abbrev pub put_of : Placed → Write
 put_of file = write.Put file.path file.bytes file.exec
 
+-- the file at a path is taken away
 abbrev pub removal_of : List ℕ → Write
 removal_of path = write.Remove path
 
@@ -60,6 +62,7 @@ pub record Head : Type 0 where
   pub next : ℕ
   pub old : Bool
 
+-- where a slot that is read stands
 abbrev pub found_place : FoundSlot → Bool
 found_place found = found.place
 

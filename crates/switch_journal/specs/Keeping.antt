@@ -38,22 +38,26 @@ are_standing entries pkgs = list_all (λ pkg. list_any (is_of pkg) entries) pkgs
 
 -- ---- what a record of each kind asks
 
+-- a request is open, its removals are done, nothing was put back, the package is a member with that opam text, and can come
 abbrev pub may_install : Pkg → List ℕ → List Placed → Contents → Option Open → Bool
 may_install pkg opam files c None = false
 may_install pkg opam files c (Some request) =
     are_removed request && not (list_any is_put_back request.done)
     && list_any (is_same_entry (record { pkg = pkg; opam = opam })) request.target && applying.can_come pkg files c
 
+-- a request is open, its removals are done, the package is one of them with kept files and may come back next, and can come
 abbrev pub may_put_back : Pkg → List Placed → Contents → Option Open → Bool
 may_put_back pkg files c None = false
 may_put_back pkg files c (Some request) =
     are_removed request && list_any (is_kept_removal pkg) request.done && list_any (is_named pkg.name) request.target
     && is_before_all_back pkg request && applying.can_come pkg files c
 
+-- a request is open, the package is the next of its removals and is installed, and what is kept is right
 abbrev pub may_remove : Pkg → Option KeptFiles → Contents → Option Open → Bool
 may_remove pkg kept c None = false
 may_remove pkg kept c (Some request) = is_next pkg (next_removal request) && has_pkg c pkg && are_kept_right pkg kept c
 
+-- no request is open, each removal is installed, each other package is a member, and the members are few
 abbrev pub may_begin : List Entry → List Pkg → Contents → Option Open → Bool
 may_begin target removals c (Some request) = false
 may_begin target removals c None = list_all (has_pkg c) removals && list_all (may_stand target removals) (entries_of c) && are_few target

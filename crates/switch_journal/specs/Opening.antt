@@ -96,6 +96,7 @@ begun_with found zero one = record {
   old = false;
 }
 
+-- what a journal knows once its records are read: whether it is old, and the number of the next one
 abbrev pub with_records : Bool → ℕ → Head → Head
 with_records old next head = record {
   counts = head.counts;

@@ -10,9 +10,11 @@ use Rattle.std.specs.declared.option.Option.TheVariants.{None, Some}
 use Rattle.opam_names.specs.Paths.{is_above}
 use Rattle.crash_disk.specs.Disks.{Kept, Tree}
 
+-- where record k stands
 abbrev pub record_path : ℕ → List ℕ
 record_path k = codes ".opam-switch/journal/rec/" ++ decimal k
 
+-- where the gate of record k stands
 abbrev pub gate_path : ℕ → List ℕ
 gate_path k = codes ".opam-switch/journal/gate/" ++ decimal k
 
@@ -21,6 +23,7 @@ abbrev pub slot_path : Bool → List ℕ
 slot_path false = codes ".opam-switch/journal/snap/0"
 slot_path true = codes ".opam-switch/journal/snap/1"
 
+-- where the gate of a slot stands
 abbrev pub slot_gate : Bool → List ℕ
 slot_gate false = codes ".opam-switch/journal/snapgate/0"
 slot_gate true = codes ".opam-switch/journal/snapgate/1"
@@ -33,10 +36,12 @@ is_inside q = is_above (codes ".opam-switch") q
 abbrev pub gate_text : List ℕ
 gate_text = codes "ok\n"
 
+-- whether the file at a gate, if any, opens it
 abbrev pub opens : Option Kept → Bool
 opens None = false
 opens (Some file) = bytes_eq file.bytes gate_text
 
+-- the gate of record k is open
 abbrev pub is_open : ℕ → Tree → Bool
 is_open k tree = opens (get tree (gate_path k))
 

@@ -130,6 +130,7 @@ abbrev pub first_number : Option FoundSlot → ℕ
 first_number None = 1
 first_number (Some found) = found.slot.number + 1
 
+-- what is said before the first record that counts
 abbrev pub first_contents : Option FoundSlot → Contents
 first_contents None = empty_contents
 first_contents (Some found) = slot_contents (slot_path found.place) found.slot
@@ -148,6 +149,7 @@ IsOld tree (Some found) old = found.old ≡ old
 IsOld tree None true = BeginsOld tree
 IsOld tree None false = ¬ (BeginsOld tree)
 
+-- the name of a package that is installed
 abbrev pub name_of_standing : Standing → List ℕ
 name_of_standing s = entry_name s.entry
 
@@ -155,6 +157,7 @@ name_of_standing s = entry_name s.entry
 abbrev pub with_all_roots : Contents → Contents
 with_all_roots c = record { standing = c.standing; owned = c.owned; roots = map name_of_standing c.standing; request = c.request }
 
+-- what is said once all records are read; in an old journal all packages are roots then
 abbrev pub at_end : Bool → Outcome → Outcome
 at_end true (Says c) = Says (with_all_roots c)
 at_end true (BadAt path) = BadAt path

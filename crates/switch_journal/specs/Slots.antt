@@ -34,9 +34,11 @@ IsSlotStage j slot text image = IsReadAs j image ⊎ IsReadAs (shut_slot j slot)
 abbrev pub shut_writes : Bool → Bool → List Write
 shut_writes slot is_open = if is_open then Remove (slot_gate slot) ∷ [] else []
 
+-- the slot stands with this text
 abbrev pub slot_writes : Bool → List ℕ → List Write
 slot_writes slot text = Put (slot_path slot) text false ∷ []
 
+-- the gate of the slot stands
 abbrev pub slot_gate_writes : Bool → List Write
 slot_gate_writes slot = Put (slot_gate slot) gate_text false ∷ []
 
@@ -45,6 +47,7 @@ abbrev pub old_writes : ℕ → ℕ → List Write
 old_writes k zero = []
 old_writes k (suc n) = Remove (gate_path k) ∷ Remove (record_path k) ∷ old_writes (k + 1) n
 
+-- what the writing of a slot writes, in four batches: the gate that is shut, the slot, its gate, and what is old then
 abbrev pub ready_slot : Bool → Bool → List ℕ → ℕ → ℕ → ReadySlot
 ready_slot slot is_open text first count = record { shut = shut_writes slot is_open; slot = slot_writes slot text; gate = slot_gate_writes slot; old = old_writes first count }
 

@@ -26,6 +26,7 @@ abbrev pub free_place : Option Bool → Bool
 free_place None = false
 free_place (Some place) = not place
 
+-- the gate of this slot is open
 abbrev pub slot_is_open : Head → Bool → Bool
 slot_is_open head false = head.zero_is_open
 slot_is_open head true = head.one_is_open

@@ -22,6 +22,7 @@ pub record IsReady (number : ℕ) (entry : Rec) (work : List Write) (ready : Rea
   pub spelled : IsSpelledBy entry text
   pub parts : ready ≡ ready_with number text work
 
+-- the record begins a request
 abbrev pub is_begin : Rec → Bool
 is_begin (Install pkg opam files) = false
 is_begin (PutBack pkg opam files) = false
@@ -37,6 +38,7 @@ pub record Step : Type 0 where
   -- the switch's own files before it
   pub files : Tree
 
+-- the switch's own files once the record's work is done
 abbrev pub files_after : Step → Tree
 files_after step = with_writes (work_of step.entry step.before) step.files
 

@@ -27,6 +27,7 @@ taken_by (Remove pkg kept) c = paths_owned_by pkg c
 taken_by (Begin roots target removals) c = []
 taken_by End c = []
 
+-- what a walk says so far
 abbrev pub said_of : Walk → Contents
 said_of walk = walk.kept
 
@@ -60,6 +61,7 @@ abbrev pub IsWalked : Bool → Tree → ℕ → Contents → List Write → Walk
 IsWalked old tree k c work (walked.Bad number) = Counts old tree k c (BadAt (record_path number))
 IsWalked old tree k c work (walked.Whole format next walk) = (format ≡ old) × CountsTo old tree k c work next walk.kept walk.work
 
+-- a walk ends at a number of 2^63 at most
 abbrev pub IsSmallWalk : Walked → Type 0
 IsSmallWalk (walked.Bad number) = number ≤ 2 ^ 63
 IsSmallWalk (walked.Whole old next walk) = next ≤ 2 ^ 63

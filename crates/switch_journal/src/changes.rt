@@ -22,7 +22,8 @@ pub(crate) fn with_files(
 ) -> Result<Owners, OutOfMemory>
     requires free { meets_any owners.owned (paths_of files.now) ≡ false }
     requires apart { AreFree (paths_of files.now) }
-    ensures { IfOk result (λ after. after.owned ≡ fold (own pkg.now) owners.owned (paths_of files.now)) }
+    ensures { IfOk result (λ after.
+        after.owned ≡ fold (own pkg.now) owners.owned (paths_of files.now)) }
 {
     additions_are_met();
     let mut owners = owners;
@@ -44,7 +45,8 @@ pub(crate) fn without(standing: Items<Standing>, pkg: &Pkg) -> Items<Standing>
 
 // The names that are installed.
 pub(crate) fn installed_names(roots: Items<Name>, standing: &[Standing]) -> Items<Name>
-    ensures { result ≡ filter (λ name. list_any (is_named name) (map entry_of standing.now)) roots }
+    ensures { result
+        ≡ filter (λ name. list_any (is_named name) (map entry_of standing.now)) roots }
 {
     let mut names = roots.into_vec();
     names.retain(|name| has_name(standing, name));

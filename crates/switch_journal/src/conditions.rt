@@ -63,7 +63,8 @@ pub(crate) fn has_entry(standing: &[Standing], pkg: &Pkg, opam: &[u8]) -> bool
 
 // Whether a member of the target is this package with this opam text.
 pub(crate) fn is_member(target: &[Entry], pkg: &Pkg, opam: &[u8]) -> bool
-    ensures { result ≡ list_any (is_same_entry (record { pkg = pkg.now; opam = opam.now })) target.now }
+    ensures { result
+        ≡ list_any (is_same_entry (record { pkg = pkg.now; opam = opam.now })) target.now }
 {
     for entry in target {
         if same_pkg(pkg, &entry.pkg) && opam == entry.opam.as_slice() {

@@ -106,7 +106,8 @@ impl Kept {
     /// What is said after the record with this number; None exactly where it cannot be applied.
     pub fn apply(self, alloc: Global, number: u64, entry: &Rec) -> Result<Option<Kept>, OutOfMemory>
         requires { IsInOrder entry.now }
-        ensures { IfOk result (λ after. after ≡ applied number (record_path number) entry.now self) }
+        ensures { IfOk result (λ after.
+            after ≡ applied number (record_path number) entry.now self) }
     {
         let from = record_path_of(alloc, number)?;
         match entry {
@@ -140,7 +141,8 @@ impl Kept {
         entry: &Rec,
     ) -> Result<Option<Kept>, OutOfMemory>
         requires { IsInOrder entry.now }
-        ensures { IfOk result (λ after. after ≡ old_applied (record_path number) entry.now self) }
+        ensures { IfOk result (λ after.
+            after ≡ old_applied (record_path number) entry.now self) }
     {
         match entry {
             Rec::Install { pkg, opam, files } => {

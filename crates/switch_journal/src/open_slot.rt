@@ -72,7 +72,8 @@ pub(crate) fn find_slot<D: Disk>(
 ) -> Result<SlotRead, DiskFault>
     ensures cause { FailsReading D.Disk disk.old disk.new result }
     ensures reads { OnlyReads D.Disk disk.old disk.new }
-    ensures told { (s : State) → D.told disk.old ≡ Some s → IfOk result (IsSlotRead s.files place) }
+    ensures told { (s : State) → D.told disk.old ≡ Some s
+        → IfOk result (IsSlotRead s.files place) }
     ensures fit { IfOk result IsFit }
 {
     match read_slot(disk, alloc, place, SLOT_LIMIT as u64)? {

@@ -82,7 +82,8 @@ impl Journal {
             → StopsLeave D.Disk (ComesToSame c files) disk.old disk.new }
         ensures done { OnOk result ((c : Contents) (snapshot : Snapshot) (files : Tree)
             → CanWriteSlot self.entry.now c snapshot files slot.now (D.told disk.old)
-            → StandsFor self.exit.now (contents_by self.entry.now snapshot) files (D.told disk.new)) }
+            → StandsFor self.exit.now (contents_by self.entry.now snapshot) files
+                (D.told disk.new)) }
     {
         write_slot(disk, slot)?;
         *self = self.from_new_slot();
