@@ -18,3 +18,4 @@ pub mod Closings
 pub mod Slotting
 pub mod Told
 pub mod Following
+pub mod Formed

@@ -5,6 +5,7 @@ pub mod Ends
 pub mod Sound
 pub mod SoundLaws
 pub mod WellFormed
+pub mod FormedLaws
 pub mod Keeps
 pub mod Begins
 pub mod OpamTexts

@@ -1,4 +1,5 @@
-// Laws of sound states, each the contract of a function that does nothing.
+// Laws of sound and of well-formed states, each the contract of a function that does nothing.
+ghost use Rattle.switch_state.specs.FormedLaws.{ActionsKeepForm, BeginsKeepForm, EmptyIsFormed, EndsKeepForm, NextBeginsKeepForm};
 ghost use Rattle.switch_state.specs.SoundLaws.{EmptyIsSound, InstallsKeepSound, PutBacksKeepSound, RemovalsKeepSound};
 
 use owner_map::additions_are_met;
@@ -25,4 +26,27 @@ pub fn put_backs_keep_sound()
 /// What is installed stays sound without a package that no other entry needs when it runs.
 pub fn removals_keep_sound()
     ensures { RemovalsKeepSound }
+{}
+
+/// The empty state is well formed.
+pub fn the_empty_state_is_formed()
+    ensures { EmptyIsFormed }
+{}
+
+/// A state stays well formed with each action that can follow on it and be spelled.
+pub fn actions_keep_form()
+    ensures { ActionsKeepForm }
+{
+    additions_are_met();
+}
+
+/// The same with the end of its request.
+pub fn ends_keep_form()
+    ensures { EndsKeepForm }
+{}
+
+/// The same with a request that begins, also where an earlier one is ended first.
+pub fn begins_keep_form()
+    ensures next { NextBeginsKeepForm }
+    ensures whole { BeginsKeepForm }
 {}
