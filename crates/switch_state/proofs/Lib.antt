@@ -19,3 +19,5 @@ pub mod Slotting
 pub mod Told
 pub mod Following
 pub mod Formed
+pub mod RequestKept
+pub mod StaysSound

@@ -44,7 +44,7 @@ pub is_false : (b : Bool) → (b ≡ true → ⊥) → b ≡ false
 is_false true never = absurd (never refl)
 is_false false never = refl
 
-bytes_back : (a b : List ℕ) → bytes_eq a b ≡ false → bytes_eq b a ≡ false
+pub bytes_back : (a b : List ℕ) → bytes_eq a b ≡ false → bytes_eq b a ≡ false
 bytes_back a b other = is_false (bytes_eq b a) (λ same. false≢true (sym other ∙ (bytes_eq-Decides a b).1 (sym ((bytes_eq-Decides b a).0 same))))
 
 pub bytes_self : (a : List ℕ) → bytes_eq a a ≡ true
@@ -149,7 +149,7 @@ all_front f (y ∷ xs) x is = by (f y) is (all_front f xs x)
     by true is later = refl
     by false is later = later is
 
-any_end : {X : Type 0} (f : X → Bool) (xs : List X) (x : X) → f x ≡ true → list_any f (xs ++ x ∷ []) ≡ true
+pub any_end : {X : Type 0} (f : X → Bool) (xs : List X) (x : X) → f x ≡ true → list_any f (xs ++ x ∷ []) ≡ true
 any_end f [] x is = ap (λ b. b || false) is
 any_end f (y ∷ xs) x is = or_true (f y) (list_any f (xs ++ x ∷ [])) (any_end f xs x is)
   where

@@ -1,6 +1,6 @@
 // Laws of sound and of well-formed states, each the contract of a function that does nothing.
 ghost use Rattle.switch_state.specs.FormedLaws.{ActionsKeepForm, BeginsKeepForm, EmptyIsFormed, EndsKeepForm, NextBeginsKeepForm};
-ghost use Rattle.switch_state.specs.SoundLaws.{EmptyIsSound, InstallsKeepSound, PutBacksKeepSound, RemovalsKeepSound};
+ghost use Rattle.switch_state.specs.SoundLaws.{BeginsKeepSound, EmptyIsSound, EndsKeepSound, InstallsKeepInstalled, InstallsKeepSound, NextBeginsKeepSound, PutBacksKeepInstalled, PutBacksKeepSound, RemovalsKeepInstalled, RemovalsKeepSound};
 
 use owner_map::additions_are_met;
 
@@ -9,23 +9,40 @@ pub fn the_empty_state_is_sound()
     ensures { EmptyIsSound }
 {}
 
-/// What is installed stays sound with an install that suits it.
+/// What is installed stays sound with an install that suits it, and the whole state with one that comes in turn besides.
 pub fn installs_keep_sound()
-    ensures { InstallsKeepSound }
+    ensures installed { InstallsKeepInstalled }
+    ensures whole { InstallsKeepSound }
 {
     additions_are_met();
 }
 
-/// The same where a package is put back.
+/// What is installed stays sound with a package that is put back and suits it, and the whole state with one that the open
+/// request removes.
 pub fn put_backs_keep_sound()
-    ensures { PutBacksKeepSound }
+    ensures installed { PutBacksKeepInstalled }
+    ensures whole { PutBacksKeepSound }
 {
     additions_are_met();
 }
 
-/// What is installed stays sound without a package that no other entry needs when it runs.
+/// What is installed stays sound without a package that no other entry needs when it runs, and the whole state where it is
+/// the next removal.
 pub fn removals_keep_sound()
-    ensures { RemovalsKeepSound }
+    ensures installed { RemovalsKeepInstalled }
+    ensures whole { RemovalsKeepSound }
+{}
+
+/// What is installed stays sound with the end of a request, and none is open then.
+pub fn ends_keep_sound()
+    ensures { EndsKeepSound }
+{}
+
+/// Where what is installed is sound, a request that asks soundly leaves the state sound, also where an earlier one is ended
+/// first.
+pub fn begins_keep_sound()
+    ensures next { NextBeginsKeepSound }
+    ensures whole { BeginsKeepSound }
 {}
 
 /// The empty state is well formed.
