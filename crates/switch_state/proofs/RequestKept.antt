@@ -30,7 +30,7 @@ and_none : (a b : Bool) → b ≡ false → (a && b) ≡ false
 and_none true b is = is
 and_none false b is = refl
 
-opposite : (b : Bool) → not b ≡ true → b ≡ false
+pub opposite : (b : Bool) → not b ≡ true → b ≡ false
 opposite true is = absurd (false≢true is)
 opposite false is = refl
 
@@ -95,7 +95,7 @@ module _ {X : Type 0} where
       by true later = both_true (t x) (list_all t (filter keep xs)) (and_left (t x) (list_all t xs) all) later
       by false later = later
 
-  all_last : (t : X → Bool) (xs : List X) (x : X) → list_all t xs ≡ true → t x ≡ true → list_all t (xs ++ x ∷ []) ≡ true
+  pub all_last : (t : X → Bool) (xs : List X) (x : X) → list_all t xs ≡ true → t x ≡ true → list_all t (xs ++ x ∷ []) ≡ true
   all_last t xs x all here = list_all-append t xs (x ∷ []) ∙ both_true (list_all t xs) (t x && true) all (both_true (t x) true here refl)
 
   drop_next : (xs : List X) (n : ℕ) (x : X) → slice_get xs n ≡ Some x → drop n xs ≡ x ∷ drop (suc n) xs
@@ -114,7 +114,7 @@ module _ {X : Type 0} where
 
 -- ---- packages
 
-same_pkg : (a b : Pkg) → is_same_pkg a b ≡ true → a ≡ b
+pub same_pkg : (a b : Pkg) → is_same_pkg a b ≡ true → a ≡ b
 same_pkg a b is =
     let name = (bytes_eq-Decides a.name b.name).0 (and_left (bytes_eq a.name b.name) (bytes_eq a.version b.version) is) in
     let version = (bytes_eq-Decides a.version b.version).0 (and_right (bytes_eq a.name b.name) (bytes_eq a.version b.version) is) in

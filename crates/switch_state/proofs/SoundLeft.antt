@@ -121,7 +121,7 @@ module _ {X : Type 0} (keep : X → Bool) where
   filter_split [] before m after is = absurd (nothing before m after is)
   filter_split (x ∷ xs) before m after is = split_by x xs before m after (keep x) refl is (filter_split xs)
 
-  any_left : (t : X → Bool) (xs : List X) → list_any t xs ≡ false → list_any t (filter keep xs) ≡ false
+  pub any_left : (t : X → Bool) (xs : List X) → list_any t xs ≡ false → list_any t (filter keep xs) ≡ false
   any_left t [] none = refl
   any_left t (x ∷ xs) none = by (keep x) (any_left t xs (or_right (t x) (list_any t xs) none))
     where

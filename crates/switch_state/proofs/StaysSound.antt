@@ -15,52 +15,21 @@ use Rattle.journal_text.specs.declared.record.Entry.{Entry}
 use Rattle.journal_text.specs.declared.record.KeptFiles.{KeptFiles}
 use Rattle.journal_text.specs.declared.record.Placed.{Placed}
 use Rattle.crash_disk.specs.Disks.{Tree}
-use Rattle.switch_journal.specs.Applying.{are_kept_right, are_removed, can_come, has_pkg, installed, is_before_all_back, is_kept_removal, is_named, is_next, is_put_back, is_same_entry, next_removal, put_back, removed, with_done, with_package, without_package}
-use Rattle.switch_journal.specs.Contents.{Contents}
+use Rattle.switch_journal.specs.Applying.{can_come, installed, is_named, put_back, removed}
 use Rattle.switch_journal.specs.Places.{record_path}
 use Rattle.switch_journal.specs.declared.request.Done.{Done}
 use Rattle.switch_journal.specs.declared.request.Done.TheVariants as done
-use Rattle.switch_journal.specs.declared.request.Open.{Open}
 use Rattle.switch_state.specs.Actions.{CanBeSpelled, CanFollow, Installs, PutsBack, Removes, and_member, and_noted, noted, own_files_after, state_after, without_pkg}
 use Rattle.switch_state.specs.Begins.{Asking, request_begun, state_begun, state_closed}
 use Rattle.switch_state.specs.Ends.{state_ended}
 use Rattle.switch_state.specs.Sound.{Agree, AreInOrder, EdgesPointBefore, InstalledIsSound, NamesDiffer, RunOnEarlier, RequestIsSound, Sound, coming, has_edge, installs_of, is_apart, member_pkg, member_pkgs, name_of}
-use Rattle.switch_state.specs.SoundLaws.{AsksSoundly, ComesInTurn, IsRemoval, IsUnneeded, Suits, arriving, is_leaving, is_left_apart, is_left_entry}
+use Rattle.switch_state.specs.SoundLaws.{AsksSoundly, ComesInTurn, arriving, is_leaving, is_left_apart, is_left_entry}
 use Rattle.switch_state.specs.State.{Request, SwitchState, contents_in, member_entry, open_of}
-use Rattle.switch_state.proofs.Alike.{only}
+use Rattle.switch_state.specs.Underway.{IsUnderway, RemovesFirst}
+use Rattle.switch_state.proofs.Asked.{asked_after, back_asks, install_asks, removal_asks}
 use Rattle.switch_state.proofs.RequestKept.{all_more, comes_left, goes_itself, goes_left, installs_as, installs_more, none_left, none_of, removal_goes, stays_as, stays_other}
-use Rattle.switch_state.proofs.SoundKept.{absent, and_left, and_right, pkg_self}
-
--- what is said of an open request is said of it once it has done one thing more
-asked_after : (P Q : Request → Type 0) (what : Done) (request : Option Request) → IfSome request P → ((r : Request) → request ≡ Some r → P r → Q (and_noted what r)) → IfSome (noted what request) Q
-asked_after P Q what None old more = tt
-asked_after P Q what (Some r) old more = more r refl old
-
--- ---- what a record asks of the open request
-
-install_asks : (from : List ℕ) (pkg : Pkg) (opam : List ℕ) (files : List Placed) (c after : Contents) (r : Open) → installed from pkg opam files c (Some r) ≡ Some after → are_removed r ≡ true
-install_asks from pkg opam files c after r is =
-    let a = are_removed r in
-    let b = not (list_any is_put_back r.done) in
-    let e = list_any (is_same_entry (record { pkg = pkg; opam = opam })) r.target in
-    let it = only (a && b && e && can_come pkg files c) (with_done (done.Installed pkg) r (with_package from pkg opam files c)) after is in
-    and_left a b (and_left (a && b) e (and_left (a && b && e) (can_come pkg files c) it.can_be))
-
-back_asks : (from : List ℕ) (pkg : Pkg) (opam : List ℕ) (files : List Placed) (c after : Contents) (r : Open) → put_back from pkg opam files c (Some r) ≡ Some after → are_removed r ≡ true
-back_asks from pkg opam files c after r is =
-    let a = are_removed r in
-    let b = list_any (is_kept_removal pkg) r.done in
-    let e = list_any (is_named pkg.name) r.target in
-    let f = is_before_all_back pkg r in
-    let it = only (a && b && e && f && can_come pkg files c) (with_done (done.PutBack pkg) r (with_package from pkg opam files c)) after is in
-    and_left a b (and_left (a && b) e (and_left (a && b && e) f (and_left (a && b && e && f) (can_come pkg files c) it.can_be)))
-
-pub removal_asks : (number : ℕ) (pkg : Pkg) (kept : Option KeptFiles) (c after : Contents) (r : Open) → removed number pkg kept c (Some r) ≡ Some after → is_next pkg (next_removal r) ≡ true
-removal_asks number pkg kept c after r is =
-    let a = is_next pkg (next_removal r) in
-    let b = has_pkg c pkg in
-    let it = only (a && b && are_kept_right pkg kept c) (with_done (done.Removed pkg number (is_some kept)) r (without_package pkg c)) after is in
-    and_left a b (and_left (a && b) (are_kept_right pkg kept c) it.can_be)
+use Rattle.switch_state.proofs.SoundKept.{absent, pkg_self}
+use Rattle.switch_state.proofs.UnderwayKept.{back_is_removal}
 
 -- ---- a package comes
 
@@ -89,15 +58,15 @@ module _ (number : ℕ) (member : Member) (placed : List Placed) (state : Switch
           comes_left member (paths_of placed) what state r (none_left r what refl asks) (none_named can) (stays_other r pkg) (goes_itself r pkg member (pkg_self pkg)) old
           (λ before. subst (AreInOrder (coming state r)) (sym (installs_more r.done (what ∷ []))) now))
 
-  pub back_request : CanFollow number (PutsBack member placed) state → can_come pkg placed (contents_in state) ≡ true → IsRemoval pkg state → IfSome state.request (RequestIsSound state)
+  pub back_request : CanFollow number (PutsBack member placed) state → can_come pkg placed (contents_in state) ≡ true → RemovesFirst state → IfSome state.request (RequestIsSound state)
       → IfSome (noted (done.PutBack pkg) state.request) (RequestIsSound (and_member member (paths_of placed) (done.PutBack pkg) state))
-  back_request follows can removal sound =
+  back_request follows can first sound =
       let what = done.PutBack pkg in
       asked_after (RequestIsSound state) (RequestIsSound (and_member member (paths_of placed) what state)) what state.request sound
       (λ r is old.
           let asks = back_asks path pkg member.opam placed (contents_in state) follows.0 (open_of r) (subst (λ (o : Option Request). put_back path pkg member.opam placed (contents_in state) (option_map open_of o) ≡ Some follows.0) is follows.1) in
-          let one = subst (λ (o : Option Request). IfSome o (λ request. list_any (is_same_pkg pkg) request.removals ≡ true)) is removal in
-          comes_left member (paths_of placed) what state r (none_left r what refl asks) (none_named can) (λ m other. stays_as r what refl m) (stays_as r what refl member ∙ removal_goes r member one) old
+          let one = back_is_removal state r pkg asks.1 (subst (λ (o : Option Request). IfSome o (IsUnderway state)) is first) in
+          comes_left member (paths_of placed) what state r (none_left r what refl asks.0) (none_named can) (λ m other. stays_as r what refl m) (stays_as r what refl member ∙ removal_goes r member one) old
           (λ before. subst (AreInOrder (coming state r)) (sym (installs_as r what refl)) before))
 
 -- ---- a package goes

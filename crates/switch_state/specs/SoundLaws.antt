@@ -17,6 +17,7 @@ use Rattle.switch_state.specs.Begins.{Asking, begun_from, state_begun}
 use Rattle.switch_state.specs.Ends.{state_ended}
 use Rattle.switch_state.specs.Sound.{AreInOrder, InstalledIsSound, IsForeign, Sound, TargetAgrees, coming, has_edge, installs_of, is_against, member_pkg, member_pkgs, name_of, runs_on}
 use Rattle.switch_state.specs.State.{Now, SwitchState}
+use Rattle.switch_state.specs.Underway.{RemovesFirst}
 
 -- nothing is installed, and nothing was asked for
 abbrev pub empty_state : SwitchState
@@ -75,21 +76,17 @@ InstallsKeepSound =
     → Suits state files member placed → ComesInTurn (member_pkg member) state → Sound state files
     → Sound (state_after number (Installs member placed) state) (own_files_after (Installs member placed) state files)
 
--- the package is one of those that the open request removes
-abbrev pub IsRemoval : Pkg → SwitchState → Type 0
-IsRemoval pkg state = IfSome state.request (λ request. IsTrue (list_any (is_same_pkg pkg) request.removals))
-
--- a state stays sound with one of its request's removals that can be put back and suits it
+-- a state whose request removes first stays sound with a package that can be put back and suits it
 abbrev pub PutBacksKeepSound : Type 0
 PutBacksKeepSound =
     (number : ℕ) (member : Member) (placed : List Placed) (state : SwitchState) (files : Tree) → CanFollow number (PutsBack member placed) state → CanBeSpelled (PutsBack member placed)
-    → Suits state files member placed → IsRemoval (member_pkg member) state → Sound state files
+    → Suits state files member placed → RemovesFirst state → Sound state files
     → Sound (state_after number (PutsBack member placed) state) (own_files_after (PutsBack member placed) state files)
 
--- a state stays sound with a removal that can follow, of a package that no other entry needs
+-- and with each removal that can follow
 abbrev pub RemovalsKeepSound : Type 0
 RemovalsKeepSound =
-    (number : ℕ) (pkg : Pkg) (kept : Option KeptFiles) (state : SwitchState) (files : Tree) → CanFollow number (Removes pkg kept) state → IsUnneeded pkg state → Sound state files
+    (number : ℕ) (pkg : Pkg) (kept : Option KeptFiles) (state : SwitchState) (files : Tree) → CanFollow number (Removes pkg kept) state → RemovesFirst state → Sound state files
     → Sound (state_after number (Removes pkg kept) state) (own_files_after (Removes pkg kept) state files)
 
 -- ---- a request ends and begins

@@ -1,6 +1,7 @@
 // Laws of sound and of well-formed states, each the contract of a function that does nothing.
 ghost use Rattle.switch_state.specs.FormedLaws.{ActionsKeepForm, BeginsKeepForm, EmptyIsFormed, EndsKeepForm, NextBeginsKeepForm};
 ghost use Rattle.switch_state.specs.SoundLaws.{BeginsKeepSound, EmptyIsSound, EndsKeepSound, InstallsKeepInstalled, InstallsKeepSound, NextBeginsKeepSound, PutBacksKeepInstalled, PutBacksKeepSound, RemovalsKeepInstalled, RemovalsKeepSound};
+ghost use Rattle.switch_state.specs.Underway.{ActionsRemoveFirst, BeginsRemoveFirst};
 
 use owner_map::additions_are_met;
 
@@ -17,8 +18,8 @@ pub fn installs_keep_sound()
     additions_are_met();
 }
 
-/// What is installed stays sound with a package that is put back and suits it, and the whole state with one that the open
-/// request removes.
+/// What is installed stays sound with a package that is put back and suits it, and so does the whole state where the open
+/// request removes first.
 pub fn put_backs_keep_sound()
     ensures installed { PutBacksKeepInstalled }
     ensures whole { PutBacksKeepSound }
@@ -26,11 +27,17 @@ pub fn put_backs_keep_sound()
     additions_are_met();
 }
 
-/// What is installed stays sound without a package that no other entry needs when it runs, and the whole state where it is
-/// the next removal.
+/// What is installed stays sound without a package that no other entry needs when it runs. Where the open request removes
+/// first its next removal is such a package, and the whole state stays sound.
 pub fn removals_keep_sound()
     ensures installed { RemovalsKeepInstalled }
     ensures whole { RemovalsKeepSound }
+{}
+
+/// A request removes first once it has begun, and whatever it does.
+pub fn requests_remove_first()
+    ensures begun { BeginsRemoveFirst }
+    ensures kept { ActionsRemoveFirst }
 {}
 
 /// What is installed stays sound with the end of a request, and none is open then.

@@ -13,10 +13,10 @@ returns-clause-installed c = λ number member placed state files follows spelled
     comes_sound member placed state (state_after number (PutsBack member placed) state) files refl refl can suits apart sound
 
 pub returns-clause-whole : goal.returns-clause-whole
-returns-clause-whole c = λ number member placed state files follows spelled suits removal sound.
+returns-clause-whole c = λ number member placed state files follows spelled suits first sound.
     let can = (backs_come number member placed state state.request follows.0 follows.1).0 in
     let apart = comes_apart c.additions_are_met.ensures member placed state can spelled.ordered.apart sound.installed.paths.owned in
     record {
       installed = comes_sound member placed state (state_after number (PutsBack member placed) state) files refl refl can suits apart sound.installed;
-      request = back_request number member placed state follows can removal sound.request;
+      request = back_request number member placed state follows can first sound.request;
     }
