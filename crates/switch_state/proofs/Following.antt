@@ -113,7 +113,7 @@ all_chosen t (name ∷ names) = by (t name) refl (all_chosen t names)
     by true is later = both_true (t name) (list_all t (filter t names)) is later
     by false is later = later
 
-ended_formed : (state : SwitchState) → IsWellFormed state → IsWellFormed (state_ended state)
+pub ended_formed : (state : SwitchState) → IsWellFormed state → IsWellFormed (state_ended state)
 ended_formed state formed = record {
   names = formed.names;
   paths = formed.paths;

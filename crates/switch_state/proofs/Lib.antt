@@ -18,3 +18,8 @@ pub mod Closings
 pub mod Slotting
 pub mod Told
 pub mod Following
+pub mod Formed
+pub mod Asked
+pub mod RequestKept
+pub mod UnderwayKept
+pub mod StaysSound

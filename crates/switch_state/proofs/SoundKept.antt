@@ -44,7 +44,7 @@ pub is_false : (b : Bool) → (b ≡ true → ⊥) → b ≡ false
 is_false true never = absurd (never refl)
 is_false false never = refl
 
-bytes_back : (a b : List ℕ) → bytes_eq a b ≡ false → bytes_eq b a ≡ false
+pub bytes_back : (a b : List ℕ) → bytes_eq a b ≡ false → bytes_eq b a ≡ false
 bytes_back a b other = is_false (bytes_eq b a) (λ same. false≢true (sym other ∙ (bytes_eq-Decides a b).1 (sym ((bytes_eq-Decides b a).0 same))))
 
 pub bytes_self : (a : List ℕ) → bytes_eq a a ≡ true
@@ -149,7 +149,7 @@ all_front f (y ∷ xs) x is = by (f y) is (all_front f xs x)
     by true is later = refl
     by false is later = later is
 
-any_end : {X : Type 0} (f : X → Bool) (xs : List X) (x : X) → f x ≡ true → list_any f (xs ++ x ∷ []) ≡ true
+pub any_end : {X : Type 0} (f : X → Bool) (xs : List X) (x : X) → f x ≡ true → list_any f (xs ++ x ∷ []) ≡ true
 any_end f [] x is = ap (λ b. b || false) is
 any_end f (y ∷ xs) x is = or_true (f y) (list_any f (xs ++ x ∷ [])) (any_end f xs x is)
   where
@@ -185,7 +185,7 @@ pub all_more : (s t : OwnedPath → Bool) (owned : List OwnedPath) → ((o : Own
 all_more s t [] more all = refl
 all_more s t (o ∷ owned) more all = both_true (t o) (list_all t owned) (more o (and_left (s o) (list_all s owned) all)) (all_more s t owned more (and_right (s o) (list_all s owned) all))
 
-pkg_self : (pkg : Pkg) → is_same_pkg pkg pkg ≡ true
+pub pkg_self : (pkg : Pkg) → is_same_pkg pkg pkg ≡ true
 pkg_self pkg = both_true (bytes_eq pkg.name pkg.name) (bytes_eq pkg.version pkg.version) (bytes_self pkg.name) (bytes_self pkg.version)
 
 abbrev is_entry : List Member → OwnedPath → Bool
@@ -221,7 +221,7 @@ module _ (t : List ℕ → Bool) where
       let here = sym (any_put (owned_by path pkg) owned) ∙ later.1 in
       (neither (t path) (list_any t paths) (or_left (t path) (list_any t (owning.paths_of owned)) here) later.0, or_right (t path) (list_any t (owning.paths_of owned)) here)
 
-  fold_none : (pkg : Pkg) (paths : List (List ℕ)) (owned : List OwnedPath) → list_any t paths ≡ false → list_any t (owning.paths_of owned) ≡ false → list_any t (owning.paths_of (fold (own pkg) owned paths)) ≡ false
+  pub fold_none : (pkg : Pkg) (paths : List (List ℕ)) (owned : List OwnedPath) → list_any t paths ≡ false → list_any t (owning.paths_of owned) ≡ false → list_any t (owning.paths_of (fold (own pkg) owned paths)) ≡ false
   fold_none pkg [] owned new old = old
   fold_none pkg (path ∷ paths) owned new old =
       fold_none pkg paths (own pkg owned path) (or_right (t path) (list_any t paths) new)
@@ -245,7 +245,7 @@ foreign_kept member placed state after files owned paths foreign apart = record 
 
 -- ---- the whole
 
-absent : (member : Member) (placed : List Placed) (state : SwitchState) → can_come member.package.pkg placed (contents_in state) ≡ true → list_any (is_named member.package.pkg.name) (map member_entry state.members) ≡ false
+pub absent : (member : Member) (placed : List Placed) (state : SwitchState) → can_come member.package.pkg placed (contents_in state) ≡ true → list_any (is_named member.package.pkg.name) (map member_entry state.members) ≡ false
 absent member placed state can =
     ap (list_any (is_named member.package.pkg.name)) (sym (entries_said state))
     ∙ not_true (has_name member.package.pkg.name (contents_in state)) (and_left (not (has_name member.package.pkg.name (contents_in state))) _ can)
@@ -270,7 +270,7 @@ comes_sound member placed state after files members owned can suits apart sound 
 empty_splits : (earlier later : List Member) (m : Member) {P : Type 0} → [] ≡ earlier ++ m ∷ later → P
 empty_splits earlier later m is = absurd (nothing earlier m later is)
 
-none_differ : NamesDiffer []
+pub none_differ : NamesDiffer []
 unfolding IsDistinct
 none_differ = tt
 

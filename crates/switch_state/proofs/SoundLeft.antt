@@ -121,7 +121,7 @@ module _ {X : Type 0} (keep : X → Bool) where
   filter_split [] before m after is = absurd (nothing before m after is)
   filter_split (x ∷ xs) before m after is = split_by x xs before m after (keep x) refl is (filter_split xs)
 
-  any_left : (t : X → Bool) (xs : List X) → list_any t xs ≡ false → list_any t (filter keep xs) ≡ false
+  pub any_left : (t : X → Bool) (xs : List X) → list_any t xs ≡ false → list_any t (filter keep xs) ≡ false
   any_left t [] none = refl
   any_left t (x ∷ xs) none = by (keep x) (any_left t xs (or_right (t x) (list_any t xs) none))
     where
@@ -141,7 +141,7 @@ module _ {X : Type 0} (keep : X → Bool) where
       by true later = (all.0, later)
       by false later = later
 
-  distinct_left : (key : X → List ℕ) (xs : List X) → IsDistinct bytes_eq (map key xs) → IsDistinct bytes_eq (map key (filter keep xs))
+  pub distinct_left : (key : X → List ℕ) (xs : List X) → IsDistinct bytes_eq (map key xs) → IsDistinct bytes_eq (map key (filter keep xs))
   unfolding IsDistinct
   distinct_left key [] apart = tt
   distinct_left key (x ∷ xs) apart = by (keep x) (distinct_left key xs apart.1)
@@ -229,7 +229,7 @@ module _ (pkg : Pkg) where
       by false true here kept any more = ap (λ b. b || is_entry (filter keep ms) o) here ∙ more any
       by false false here kept any more = more any
 
-  owners_left : (ms : List Member) (owned : List OwnedPath) → list_all (is_entry ms) owned ≡ true → list_all (is_entry (filter keep ms)) (filter (is_of_another pkg) owned) ≡ true
+  pub owners_left : (ms : List Member) (owned : List OwnedPath) → list_all (is_entry ms) owned ≡ true → list_all (is_entry (filter keep ms)) (filter (is_of_another pkg) owned) ≡ true
   owners_left ms [] all = refl
   owners_left ms (o ∷ owned) all = by (is_of_another pkg o) refl (owners_left ms owned (and_right (is_entry ms o) (list_all (is_entry ms) owned) all))
     where
@@ -252,7 +252,7 @@ module _ (pkg : Pkg) where
       by true here there more = neither (t o.path) (list_any t (owning.paths_of owned)) (or_left (t o.path) (list_any t (takes owned)) here) (more (or_right (t o.path) (list_any t (takes owned)) here) there)
       by false here there more = neither (t o.path) (list_any t (owning.paths_of owned)) (or_left (t o.path) (list_any t (owning.paths_of (filter (is_of_another pkg) owned))) there) (more here (or_right (t o.path) (list_any t (owning.paths_of (filter (is_of_another pkg) owned))) there))
 
-  paths_left : (t : List ℕ → Bool) (owned : List OwnedPath) → list_any t (owning.paths_of owned) ≡ false → list_any t (owning.paths_of (filter (is_of_another pkg) owned)) ≡ false
+  pub paths_left : (t : List ℕ → Bool) (owned : List OwnedPath) → list_any t (owning.paths_of owned) ≡ false → list_any t (owning.paths_of (filter (is_of_another pkg) owned)) ≡ false
   paths_left t [] none = refl
   paths_left t (o ∷ owned) none = by (is_of_another pkg o) (paths_left t owned (or_right (t o.path) (list_any t (owning.paths_of owned)) none))
     where

@@ -4,7 +4,9 @@ pub mod Prepares
 pub mod Ends
 pub mod Sound
 pub mod SoundLaws
+pub mod Underway
 pub mod WellFormed
+pub mod FormedLaws
 pub mod Keeps
 pub mod Begins
 pub mod OpamTexts

@@ -15,7 +15,9 @@ mod switch;
 mod taking;
 
 pub use laws::{
-    installs_keep_sound, put_backs_keep_sound, removals_keep_sound, the_empty_state_is_sound,
+    actions_keep_form, begins_keep_form, begins_keep_sound, ends_keep_form, ends_keep_sound,
+    installs_keep_sound, put_backs_keep_sound, removals_keep_sound, requests_remove_first,
+    the_empty_state_is_formed, the_empty_state_is_sound,
 };
 pub use prepared::{Change, Prepared, Receipt};
 pub use removals::KEPT_LIMIT;

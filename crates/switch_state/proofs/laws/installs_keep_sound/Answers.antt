@@ -3,10 +3,20 @@ use Rattle.switch_state.specs.Actions.{Installs, state_after}
 use Rattle.switch_state.proofs.Aparts.{comes_apart}
 use Rattle.switch_state.proofs.Readied.{installs_come}
 use Rattle.switch_state.proofs.SoundKept.{comes_sound}
+use Rattle.switch_state.proofs.StaysSound.{installed_request}
 use Rattle.switch_state.proofs.laws.installs_keep_sound.Goals as goal
 
-pub returns : goal.returns
-returns c = λ number member placed state files follows spelled suits sound.
+pub returns-clause-installed : goal.returns-clause-installed
+returns-clause-installed c = λ number member placed state files follows spelled suits sound.
     let can = (installs_come number member placed state state.request follows.0 follows.1).0 in
     let apart = comes_apart c.additions_are_met.ensures member placed state can spelled.ordered.apart sound.paths.owned in
     comes_sound member placed state (state_after number (Installs member placed) state) files refl refl can suits apart sound
+
+pub returns-clause-whole : goal.returns-clause-whole
+returns-clause-whole c = λ number member placed state files follows spelled suits turn sound.
+    let can = (installs_come number member placed state state.request follows.0 follows.1).0 in
+    let apart = comes_apart c.additions_are_met.ensures member placed state can spelled.ordered.apart sound.installed.paths.owned in
+    record {
+      installed = comes_sound member placed state (state_after number (Installs member placed) state) files refl refl can suits apart sound.installed;
+      request = installed_request number member placed state follows can turn sound.request;
+    }
