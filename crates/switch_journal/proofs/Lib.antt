@@ -6,6 +6,7 @@ pub mod CommitStops
 pub mod Committed
 pub mod Determined
 pub mod Exits
+pub mod Formed
 pub mod FoundSlots
 pub mod GatedTells
 pub mod SaidWhen
