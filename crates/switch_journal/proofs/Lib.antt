@@ -7,6 +7,7 @@ pub mod Committed
 pub mod Determined
 pub mod EachRead
 pub mod Exits
+pub mod Formed
 pub mod FoundSlots
 pub mod GatedTells
 pub mod SaidWhen

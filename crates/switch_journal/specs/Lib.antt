@@ -14,3 +14,4 @@ pub mod Keeping
 pub mod Found
 pub mod Walks
 pub mod Opening
+pub mod Formed

@@ -8,6 +8,7 @@ ghost use Rattle.crash_disk.specs.Disks.{State, Tree};
 ghost use Rattle.crash_disk.specs.Effects.{FailsReading, OnlyReads, Touches, at_rest};
 ghost use Rattle.crash_disk.specs.Stops.{StopsLeave};
 ghost use Rattle.crash_disk.specs.Writes.{paths_of};
+ghost use Rattle.switch_journal.specs.Formed.{IsFormed, IsOpenedFormed, IsWalkFormed};
 ghost use Rattle.switch_journal.specs.Found.{IsFitSlot, found_of};
 ghost use Rattle.switch_journal.specs.Journal.{IsReadAt};
 ghost use Rattle.switch_journal.specs.Opening.{FailsOpening, IsNamed, IsOpened, IsWhileOpening, Opening, OpensAs, TouchesLast, begun_with, opened_of, with_records};
@@ -66,8 +67,10 @@ fn begun(found: &Option<OpenSlot>, zero_is_open: bool, one_is_open: bool) -> Jou
 
 // The journal with its records counted.
 fn as_opened(alloc: Global, journal: Journal, walked: Walked) -> Result<Opened, OutOfMemory>
-    requires { IsSmallWalk walked }
-    ensures { IfOk result (λ o. o ≡ opened_of journal walked) }
+    requires small { IsSmallWalk walked }
+    requires formed { IsWalkFormed walked }
+    ensures is { IfOk result (λ o. o ≡ opened_of journal walked) }
+    ensures formed { IfOk result IsOpenedFormed }
 {
     match walked {
         Walked::Bad { number } => Ok(Opened::Bad {
@@ -114,6 +117,7 @@ fn read_records<D: Disk>(
     ensures told { (s : State) → D.told disk.old ≡ Some s
         → SlotIs s.files false (option_map found_of zero)
         → SlotIs s.files true (option_map found_of one) → IfOk result (IsOpened s.files) }
+    ensures formed { IfOk result IsOpenedFormed }
 {
     let zero_is_open = zero.is_some();
     let one_is_open = one.is_some();
@@ -133,6 +137,7 @@ fn read_second<D: Disk>(
     ensures reads { OnlyReads D.Disk disk.old disk.new }
     ensures told { (s : State) → D.told disk.old ≡ Some s
         → SlotIs s.files false (option_map found_of zero) → IfOk result (IsOpened s.files) }
+    ensures formed { IfOk result IsOpenedFormed }
 {
     match find_slot(disk, alloc, true)? {
         SlotRead::Bad => Ok(Opened::Bad {
@@ -147,6 +152,7 @@ fn read_journal<D: Disk>(disk: &mut D, alloc: Global) -> Result<Opened, DiskFaul
     ensures cause { FailsReading D.Disk disk.old disk.new result }
     ensures reads { OnlyReads D.Disk disk.old disk.new }
     ensures told { (s : State) → D.told disk.old ≡ Some s → IfOk result (IsOpened s.files) }
+    ensures formed { IfOk result IsOpenedFormed }
 {
     match find_slot(disk, alloc, false)? {
         SlotRead::Bad => Ok(Opened::Bad {
@@ -163,10 +169,12 @@ fn redo_last<D: Disk>(
     kept: Kept,
     work: Items<Write>,
 ) -> Result<(Journal, Kept), OpenFault>
+    requires { IsFormed kept }
     ensures cause { FailsOpening D.Disk disk.old disk.new result }
     ensures touches { Touches D.Disk (paths_of work) disk.old disk.new }
     ensures opening { (s : State) → D.told disk.old ≡ Some (at_rest s.files)
         → IsReadAt journal kept work s.files → Opening D.Disk s disk.old disk.new result }
+    ensures formed { IfOk result (λ both. IsFormed both.1) }
 {
     match write_all(disk, work.as_slice()) {
         Ok(()) => Ok((journal, kept)),
@@ -180,6 +188,7 @@ fn open_at_rest<D: Disk>(disk: &mut D, alloc: Global) -> Result<(Journal, Kept),
     ensures touches { TouchesLast D.Disk disk.old disk.new }
     ensures opening { (s : State) → D.told disk.old ≡ Some (at_rest s.files)
         → Opening D.Disk s disk.old disk.new result }
+    ensures formed { IfOk result (λ both. IsFormed both.1) }
 {
     match read_journal(disk, alloc) {
         Err(DiskFault::Failed) => Err(OpenFault::DiskFailed),
@@ -211,6 +220,8 @@ impl Journal {
         // before might have left.
         ensures crash { (s : State) → D.told disk.old ≡ Some s
             → StopsLeave D.Disk (IsWhileOpening s) disk.old disk.new }
+        // Whatever the disk tells: each name stands once, and owners and roots are installed.
+        ensures formed { IfOk result (λ both. IsFormed both.1) }
     {
         match sync(disk) {
             Err(Failed) => Err(OpenFault::DiskFailed),

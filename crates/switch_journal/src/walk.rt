@@ -7,6 +7,7 @@ ghost use Rattle.crash_disk.specs.Disks.{State};
 ghost use Rattle.crash_disk.specs.Effects.{FailsReading, OnlyReads};
 ghost use Rattle.journal_text.specs.Records.{IsInOrder};
 ghost use Rattle.std.specs.declared.option.Option.TheVariants.{None, Some};
+ghost use Rattle.switch_journal.specs.Formed.{IsFirstFormed, IsFormedIn, IsStepFormed, IsTurnFormed, IsWalkFormed};
 ghost use Rattle.switch_journal.specs.Found.{IsFitSlot, found_of};
 ghost use Rattle.switch_journal.specs.Journal.{work_of};
 ghost use Rattle.switch_journal.specs.Reading.{SpellsRecord, after_record};
@@ -98,9 +99,11 @@ fn apply_entry(
     kept: Kept,
     entry: Rec,
 ) -> Result<Option<Walk>, OutOfMemory>
-    requires { IsInOrder entry }
+    requires ordered { IsInOrder entry }
+    requires formed { IsFormedIn old kept }
     ensures said { IfOk result (λ w. option_map said_of w ≡ after_record old number entry kept) }
     ensures work { IfOk result (λ w. IfSome w (λ walk. walk.work ≡ work_of entry kept)) }
+    ensures formed { IfOk result (IsStepFormed old) }
 {
     let takes = kept.taken_by(alloc, &entry)?;
     match kept.after(alloc, old, number, &entry)? {
@@ -131,7 +134,9 @@ fn apply_text(
     kept: Kept,
     bytes: Items<u8>,
 ) -> Result<Option<Walk>, OutOfMemory>
-    ensures { IfOk result (IsStepText old number kept bytes) }
+    requires { IsFormedIn old kept }
+    ensures told { IfOk result (IsStepText old number kept bytes) }
+    ensures formed { IfOk result (IsStepFormed old) }
 {
     one_record_for_bytes();
     match decode_as(alloc, old, bytes)? {
@@ -148,11 +153,13 @@ fn step<D: Disk>(
     number: u64,
     kept: Kept,
 ) -> Result<Option<Walk>, DiskFault>
-    requires { number < 2 ^ 63 }
+    requires small { number < 2 ^ 63 }
+    requires formed { IsFormedIn old kept }
     ensures cause { FailsReading D.Disk disk.old disk.new result }
     ensures reads { OnlyReads D.Disk disk.old disk.new }
     ensures told { (s : State) → D.told disk.old ≡ Some s
         → IfOk result (IsStep old s.files number kept) }
+    ensures formed { IfOk result (IsStepFormed old) }
 {
     match read_record_text(disk, alloc, number)? {
         None => Ok(None),
@@ -168,11 +175,13 @@ fn take_turn<D: Disk>(
     number: u64,
     walk: Walk,
 ) -> Result<Turn, DiskFault>
-    requires { number < 2 ^ 63 }
+    requires small { number < 2 ^ 63 }
+    requires formed { IsFormedIn old walk.kept }
     ensures cause { FailsReading D.Disk disk.old disk.new result }
     ensures reads { OnlyReads D.Disk disk.old disk.new }
     ensures told { (s : State) → D.told disk.old ≡ Some s
         → IfOk result (IsTurn old s.files number walk) }
+    ensures formed { IfOk result (IsTurnFormed old) }
 {
     if !is_record_open(disk, alloc, number)? {
         return Ok(Turn::End(walk));
@@ -200,12 +209,14 @@ fn walk_from<D: Disk>(
     from: u64,
     walk: Walk,
 ) -> Result<Walked, DiskFault>
-    requires { from ≤ 2 ^ 63 }
+    requires small { from ≤ 2 ^ 63 }
+    requires formed { IsFormedIn old walk.kept }
     ensures cause { FailsReading D.Disk disk.old disk.new result }
     ensures reads { OnlyReads D.Disk disk.old disk.new }
     ensures told { (s : State) → D.told disk.old ≡ Some s
         → IfOk result (IsWalked old s.files from walk.kept walk.work) }
     ensures small { IfOk result IsSmallWalk }
+    ensures formed { IfOk result IsWalkFormed }
 {
     let mut walk = walk;
     for number in from..NUMBER_LIMIT {
@@ -252,7 +263,8 @@ fn decode_first(alloc: Global, bytes: Items<u8>) -> Result<Spelled, OutOfMemory>
 }
 
 fn first_text(alloc: Global, bytes: Items<u8>) -> Result<First, OutOfMemory>
-    ensures { IfOk result (IsFirstText bytes) }
+    ensures told { IfOk result (IsFirstText bytes) }
+    ensures formed { IfOk result IsFirstFormed }
 {
     one_record_for_bytes();
     let Spelled { old, entry } = decode_first(alloc, bytes)?;
@@ -270,6 +282,7 @@ fn first_step<D: Disk>(disk: &mut D, alloc: Global) -> Result<First, DiskFault>
     ensures cause { FailsReading D.Disk disk.old disk.new result }
     ensures reads { OnlyReads D.Disk disk.old disk.new }
     ensures told { (s : State) → D.told disk.old ≡ Some s → IfOk result (IsFirst s.files) }
+    ensures formed { IfOk result IsFirstFormed }
 {
     match read_record_text(disk, alloc, 1)? {
         None => Ok(First {
@@ -287,6 +300,7 @@ fn walk_all<D: Disk>(disk: &mut D, alloc: Global) -> Result<Walked, DiskFault>
     ensures told { (s : State) → D.told disk.old ≡ Some s
         → IfOk result (IsWalkedAfter s.files None) }
     ensures small { IfOk result IsSmallWalk }
+    ensures formed { IfOk result IsWalkFormed }
 {
     if !is_record_open(disk, alloc, 1)? {
         return Ok(Walked::Whole {
@@ -324,6 +338,7 @@ pub(crate) fn walk_after<D: Disk>(
     ensures told { (s : State) → D.told disk.old ≡ Some s
         → IfOk result (IsWalkedAfter s.files (option_map found_of found)) }
     ensures small { IfOk result IsSmallWalk }
+    ensures formed { IfOk result IsWalkFormed }
 {
     match found {
         None => walk_all(disk, alloc),

@@ -32,3 +32,6 @@ returns-in-Ok-Bad-clause-touches g c = only_read_touched c.read_journal.ensures.
 pub returns-in-Ok-Whole-clause-touches : goal.returns-in-Ok-Whole-clause-touches
 returns-in-Ok-Whole-clause-touches g c =
     read_touched c.in-Ok-Whole.journal c.in-Ok-Whole.kept c.read_journal.ensures.reads c.redo_last.ensures.touches (λ s is. rw c.in-Ok-Whole.field-0-is at c.in-Ok-Whole.ensures.told s is)
+
+pub redo_last-requires : goal.redo_last-requires
+redo_last-requires g c = rw c.in-Ok-Whole.field-0-is at c.in-Ok-Whole.ensures.formed

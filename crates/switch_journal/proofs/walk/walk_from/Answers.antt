@@ -21,6 +21,7 @@ pub loop-number-preserved : goal.loop-number-preserved
 loop-number-preserved g c = record {
   quiet = c.in_ok-walk.ensures.cause.ok ∙ c.loop-number.invariant.quiet;
   reads = reads_then c.loop-number.invariant.reads c.in_ok-walk.ensures.reads;
+  formed = rw c.in-On.is at c.in_ok-walk.ensures.formed;
   on = λ s is w more.
       let told = c.loop-number.invariant.reads.same ∙ is in
       c.loop-number.invariant.on s is w
@@ -30,7 +31,7 @@ loop-number-preserved g c = record {
 pub returns-then-branch-clause-told : goal.returns-then-branch-clause-told
 returns-then-branch-clause-told g c = λ s is.
     let told = c.loop-number.invariant.reads.same ∙ is in
-    let last : c.loop-number.number ≡ 2 ^ 63 = omega (arith, c.loop-number-test.false, c.loop-number.auto.number-end, c.requires) in
+    let last : c.loop-number.number ≡ 2 ^ 63 = omega (arith, c.loop-number-test.false, c.loop-number.auto.number-end, c.requires.small) in
     let large : 2 ^ 63 ≤ 2 ^ 63 = omega arith in
     subst (λ (n : ℕ). (w : Walked) → IsWalked c.args.old s.files n c.loop-number.walk.kept c.loop-number.walk.work w → IsWalked c.args.old s.files c.args.from c.args.walk.kept c.args.walk.work w) last (c.loop-number.invariant.on s is)
     (walked.Bad (2 ^ 63)) (last_open c.args.old s.files (2 ^ 63) c.loop-number.walk large (sym (c.in_ok-is_record_open.ensures.told s told) ∙ c.if-branch.true))
@@ -38,6 +39,9 @@ returns-then-branch-clause-told g c = λ s is.
 pub returns-else-branch-clause-told : goal.returns-else-branch-clause-told
 returns-else-branch-clause-told g c = λ s is.
     let told = c.loop-number.invariant.reads.same ∙ is in
-    let last : c.loop-number.number ≡ 2 ^ 63 = omega (arith, c.loop-number-test.false, c.loop-number.auto.number-end, c.requires) in
+    let last : c.loop-number.number ≡ 2 ^ 63 = omega (arith, c.loop-number-test.false, c.loop-number.auto.number-end, c.requires.small) in
     subst (λ (n : ℕ). (w : Walked) → IsWalked c.args.old s.files n c.loop-number.walk.kept c.loop-number.walk.work w → IsWalked c.args.old s.files c.args.from c.args.walk.kept c.args.walk.work w) last (c.loop-number.invariant.on s is)
     (walked.Whole c.args.old (2 ^ 63) c.loop-number.walk) (last_shut c.args.old s.files (2 ^ 63) c.loop-number.walk (sym (c.in_ok-is_record_open.ensures.told s told) ∙ c.if-branch.false))
+
+pub returns-in-End-clause-formed : goal.returns-in-End-clause-formed
+returns-in-End-clause-formed g c = rw c.in-End.is at c.in_ok-walk.ensures.formed
