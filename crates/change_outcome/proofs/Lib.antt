@@ -1,0 +1,9 @@
+pub mod Schedules
+pub mod Making
+pub mod Ordered
+pub mod Foreign
+pub mod Outside
+pub mod Lists
+pub mod Clearing
+pub mod Filling
+pub mod Following

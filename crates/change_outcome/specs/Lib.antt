@@ -1,0 +1,9 @@
+pub mod Changes
+pub mod Decisions
+pub mod Steps
+pub mod PutBacks
+pub mod Outcomes
+pub mod ScheduleLaws
+pub mod Running
+pub mod ForeignLaws
+pub mod OutsideLaws

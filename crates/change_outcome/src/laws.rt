@@ -1,0 +1,32 @@
+// What holds of every outcome. Nothing here runs: each function stands for its law.
+ghost use Rattle.change_outcome.specs.ForeignLaws.{ForeignFilesStay};
+ghost use Rattle.change_outcome.specs.OutsideLaws.{ActionsStayOutside, PutBacksSeeOutside, RemovalsSeeOutside, VerdictsSeeOutside};
+ghost use Rattle.change_outcome.specs.Running.{ActionsCanFollow};
+ghost use Rattle.change_outcome.specs.ScheduleLaws.{SchedulesGiveTheOutcome};
+
+use change_floor::schedule_does_not_decide;
+
+/// Whatever the order in which jobs start and end, what is decided is the outcome.
+pub fn schedules_give_the_outcome()
+    ensures { SchedulesGiveTheOutcome }
+{
+    schedule_does_not_decide();
+}
+
+/// Files that nobody owns stay as they are.
+pub fn foreign_files_stay()
+    ensures { ForeignFilesStay }
+{}
+
+/// What is decided does not depend on files in the switch's own folder, and an action does not carry them out of it.
+pub fn the_journal_is_not_seen()
+    ensures verdicts { VerdictsSeeOutside }
+    ensures put_backs { PutBacksSeeOutside }
+    ensures removals { RemovalsSeeOutside }
+    ensures actions { ActionsStayOutside }
+{}
+
+/// Each removal and install of a change that may be run can follow on the state where its turn comes.
+pub fn actions_can_follow()
+    ensures { ActionsCanFollow }
+{}

@@ -1,0 +1,8 @@
+//! What a change comes to: the definition of its outcome, action by action, and what holds of every outcome. Nothing here runs.
+#![tactic(auto)]
+
+mod laws;
+
+pub use laws::{
+    actions_can_follow, foreign_files_stay, schedules_give_the_outcome, the_journal_is_not_seen,
+};
