@@ -83,9 +83,9 @@ has_by law old tree place text there (inl some) =
     let slot = some.0 in
     decided_as (λ h. (slot, record { text = text; there = there; spelled = some.1; small = h.0; few = h.1 }))
     (λ h.
-        let spelled = subst (SpellsSlot old h.0) (some_text (sym h.1.there ∙ there)) h.1.spelled in
-        let same : h.0 ≡ slot = (same_slot law old old h.0 slot text spelled some.1).1 in
-        subst (λ (s : Snapshot). (s.number < 2 ^ 63) × IsTrue (is_small (slot_contents (slot_path place) s))) same (h.1.small, h.1.few))
+    let spelled = subst (SpellsSlot old h.0) (some_text (sym h.1.there ∙ there)) h.1.spelled in
+    let same : h.0 ≡ slot = (same_slot law old old h.0 slot text spelled some.1).1 in
+    subst (λ (s : Snapshot). (s.number < 2 ^ 63) × IsTrue (is_small (slot_contents (slot_path place) s))) same (h.1.small, h.1.few))
     (both_decided (less_decided slot.number (2 ^ 63)) (true_decided (is_small (slot_contents (slot_path place) slot))))
 
 -- a slot is shut or found, or it is bad

@@ -83,7 +83,7 @@ impl Journal {
         ensures done { OnOk result ((c : Contents) (snapshot : Snapshot) (files : Tree)
             → CanWriteSlot self.entry.now c snapshot files slot.now (D.told disk.old)
             → StandsFor self.exit.now (contents_by self.entry.now snapshot) files
-                (D.told disk.new)) }
+            (D.told disk.new)) }
     {
         write_slot(disk, slot)?;
         *self = self.from_new_slot();

@@ -211,9 +211,9 @@ module _ (member : Member) (paths : List (List ℕ)) (what : Done) (state : Swit
       let others = λ (m : Member) (other : is_it m ≡ false). stay m (other_pkg (member_pkg m) (member_pkg member) other) in
       let entries : (name : List ℕ) → list_any (is_kept_entry later name) (state.members ++ member ∷ []) ≡ list_any (is_kept_entry request name) state.members =
       λ name.
-          list_any-append (is_kept_entry later name) state.members (member ∷ [])
-          ∙ or_none (list_any (is_kept_entry later name) state.members) (is_kept_entry later name member) (and_none (bytes_eq (name_of member) name) (stays later member) goes)
-          ∙ any_same is_it (is_kept_entry later name) (is_kept_entry request name) state.members (λ m other. ap (λ b. bytes_eq (name_of m) name && b) (others m other)) absent in
+      list_any-append (is_kept_entry later name) state.members (member ∷ [])
+      ∙ or_none (list_any (is_kept_entry later name) state.members) (is_kept_entry later name member) (and_none (bytes_eq (name_of member) name) (stays later member) goes)
+      ∙ any_same is_it (is_kept_entry later name) (is_kept_entry request name) state.members (λ m other. ap (λ b. bytes_eq (name_of m) name && b) (others m other)) absent in
       let same = coming_as state came request later refl entries in
       record {
         target = sound.target;
@@ -319,8 +319,8 @@ module _ (pkg : Pkg) where
         let stay = stays_as request what refl in
         let entries : (name : List ℕ) → list_any (is_kept_entry then_left name) (filter (is_other_member pkg) state.members) ≡ list_any (is_kept_entry request name) state.members =
         λ name.
-            any_left_same (is_other_member pkg) (is_kept_entry then_left name) state.members (λ m gone_too. and_none (bytes_eq (name_of m) name) (stays then_left m) (stay m ∙ its_goes m gone_too))
-            ∙ any_same (λ (m : Member). false) (is_kept_entry then_left name) (is_kept_entry request name) state.members (λ m none. ap (λ b. bytes_eq (name_of m) name && b) (stay m)) (none_of state.members) in
+        any_left_same (is_other_member pkg) (is_kept_entry then_left name) state.members (λ m gone_too. and_none (bytes_eq (name_of m) name) (stays then_left m) (stay m ∙ its_goes m gone_too))
+        ∙ any_same (λ (m : Member). false) (is_kept_entry then_left name) (is_kept_entry request name) state.members (λ m none. ap (λ b. bytes_eq (name_of m) name && b) (stay m)) (none_of state.members) in
         let same = coming_as state gone request then_left refl entries in
         let leave : filter (λ (p : Pkg). list_any (is_same_pkg p) (pkg ∷ removals_left then_left)) (member_pkgs state.members) ≡ reverse (pkg ∷ removals_left then_left) =
         subst (λ (ps : List Pkg). filter (λ (p : Pkg). list_any (is_same_pkg p) ps) (member_pkgs state.members) ≡ reverse ps) left_is sound.removals in

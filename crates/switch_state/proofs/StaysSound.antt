@@ -53,10 +53,10 @@ module _ (number : ℕ) (member : Member) (placed : List Placed) (state : Switch
       let what = done.Installed pkg in
       asked_after (RequestIsSound state) (RequestIsSound (and_member member (paths_of placed) what state)) what state.request sound
       (λ r is old.
-          let asks = install_asks path pkg member.opam placed (contents_in state) follows.0 (open_of r) (subst (λ (o : Option Request). installed path pkg member.opam placed (contents_in state) (option_map open_of o) ≡ Some follows.0) is follows.1) in
-          let now = subst (λ (o : Option Request). IfSome o (λ request. AreInOrder (coming state request) (installs_of request.done ++ pkg ∷ []))) is turn in
-          comes_left member (paths_of placed) what state r (none_left r what refl asks) (none_named can) (stays_other r pkg) (goes_itself r pkg member (pkg_self pkg)) old
-          (λ before. subst (AreInOrder (coming state r)) (sym (installs_more r.done (what ∷ []))) now))
+      let asks = install_asks path pkg member.opam placed (contents_in state) follows.0 (open_of r) (subst (λ (o : Option Request). installed path pkg member.opam placed (contents_in state) (option_map open_of o) ≡ Some follows.0) is follows.1) in
+      let now = subst (λ (o : Option Request). IfSome o (λ request. AreInOrder (coming state request) (installs_of request.done ++ pkg ∷ []))) is turn in
+      comes_left member (paths_of placed) what state r (none_left r what refl asks) (none_named can) (stays_other r pkg) (goes_itself r pkg member (pkg_self pkg)) old
+      (λ before. subst (AreInOrder (coming state r)) (sym (installs_more r.done (what ∷ []))) now))
 
   pub back_request : CanFollow number (PutsBack member placed) state → can_come pkg placed (contents_in state) ≡ true → RemovesFirst state → IfSome state.request (RequestIsSound state)
       → IfSome (noted (done.PutBack pkg) state.request) (RequestIsSound (and_member member (paths_of placed) (done.PutBack pkg) state))
@@ -64,10 +64,10 @@ module _ (number : ℕ) (member : Member) (placed : List Placed) (state : Switch
       let what = done.PutBack pkg in
       asked_after (RequestIsSound state) (RequestIsSound (and_member member (paths_of placed) what state)) what state.request sound
       (λ r is old.
-          let asks = back_asks path pkg member.opam placed (contents_in state) follows.0 (open_of r) (subst (λ (o : Option Request). put_back path pkg member.opam placed (contents_in state) (option_map open_of o) ≡ Some follows.0) is follows.1) in
-          let one = back_is_removal state r pkg asks.1 (subst (λ (o : Option Request). IfSome o (IsUnderway state)) is first) in
-          comes_left member (paths_of placed) what state r (none_left r what refl asks.0) (none_named can) (λ m other. stays_as r what refl m) (stays_as r what refl member ∙ removal_goes r member one) old
-          (λ before. subst (AreInOrder (coming state r)) (sym (installs_as r what refl)) before))
+      let asks = back_asks path pkg member.opam placed (contents_in state) follows.0 (open_of r) (subst (λ (o : Option Request). put_back path pkg member.opam placed (contents_in state) (option_map open_of o) ≡ Some follows.0) is follows.1) in
+      let one = back_is_removal state r pkg asks.1 (subst (λ (o : Option Request). IfSome o (IsUnderway state)) is first) in
+      comes_left member (paths_of placed) what state r (none_left r what refl asks.0) (none_named can) (λ m other. stays_as r what refl m) (stays_as r what refl member ∙ removal_goes r member one) old
+      (λ before. subst (AreInOrder (coming state r)) (sym (installs_as r what refl)) before))
 
 -- ---- a package goes
 
@@ -77,8 +77,8 @@ gone_request number pkg kept state files follows installed sound =
     let what = done.Removed pkg number (is_some kept) in
     asked_after (RequestIsSound state) (RequestIsSound (without_pkg pkg what state)) what state.request sound
     (λ r is old.
-        let next = removal_asks number pkg kept (contents_in state) follows.0 (open_of r) (subst (λ (o : Option Request). removed number pkg kept (contents_in state) (option_map open_of o) ≡ Some follows.0) is follows.1) in
-        goes_left pkg number (is_some kept) state r next installed.names old)
+    let next = removal_asks number pkg kept (contents_in state) follows.0 (open_of r) (subst (λ (o : Option Request). removed number pkg kept (contents_in state) (option_map open_of o) ≡ Some follows.0) is follows.1) in
+    goes_left pkg number (is_some kept) state r next installed.names old)
 
 -- ---- a request ends, and one begins
 

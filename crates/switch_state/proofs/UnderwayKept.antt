@@ -96,23 +96,23 @@ actions_underway number (Installs member placed) state follows under =
     let after = state_after number (Installs member placed) state in
     asked_after (IsUnderway state) (IsUnderway after) what state.request under
     (λ r is old.
-        let asks = install_asks (record_path number) pkg member.opam placed (contents_in state) follows.0 (open_of r) (subst (λ (o : Option Request). installed (record_path number) pkg member.opam placed (contents_in state) (option_map open_of o) ≡ Some follows.0) is follows.1) in
-        stays_underway state after r what refl refl asks old)
+    let asks = install_asks (record_path number) pkg member.opam placed (contents_in state) follows.0 (open_of r) (subst (λ (o : Option Request). installed (record_path number) pkg member.opam placed (contents_in state) (option_map open_of o) ≡ Some follows.0) is follows.1) in
+    stays_underway state after r what refl refl asks old)
 actions_underway number (PutsBack member placed) state follows under =
     let pkg = member_pkg member in
     let what = done.PutBack pkg in
     let after = state_after number (PutsBack member placed) state in
     asked_after (IsUnderway state) (IsUnderway after) what state.request under
     (λ r is old.
-        let asks = back_asks (record_path number) pkg member.opam placed (contents_in state) follows.0 (open_of r) (subst (λ (o : Option Request). put_back (record_path number) pkg member.opam placed (contents_in state) (option_map open_of o) ≡ Some follows.0) is follows.1) in
-        stays_underway state after r what refl refl asks.0 old)
+    let asks = back_asks (record_path number) pkg member.opam placed (contents_in state) follows.0 (open_of r) (subst (λ (o : Option Request). put_back (record_path number) pkg member.opam placed (contents_in state) (option_map open_of o) ≡ Some follows.0) is follows.1) in
+    stays_underway state after r what refl refl asks.0 old)
 actions_underway number (Removes pkg kept) state follows under =
     let what = done.Removed pkg number (is_some kept) in
     let after = state_after number (Removes pkg kept) state in
     asked_after (IsUnderway state) (IsUnderway after) what state.request under
     (λ r is old.
-        let next = removal_asks number pkg kept (contents_in state) follows.0 (open_of r) (subst (λ (o : Option Request). removed number pkg kept (contents_in state) (option_map open_of o) ≡ Some follows.0) is follows.1) in
-        removes_underway pkg number (is_some kept) state r next old)
+    let next = removal_asks number pkg kept (contents_in state) follows.0 (open_of r) (subst (λ (o : Option Request). removed number pkg kept (contents_in state) (option_map open_of o) ≡ Some follows.0) is follows.1) in
+    removes_underway pkg number (is_some kept) state r next old)
 
 pub begun_underway : (number : ℕ) (asking : Asking) (state : SwitchState) → RemovesFirst (state_begun number asking state)
 begun_underway number asking state = record { removed = refl; first = inr (record { removals = refl; absent = refl }) }
@@ -302,10 +302,10 @@ module _ (pkg : Pkg) (state : SwitchState) (request : Request) (rest : List Pkg)
         let it = is_same_pkg (member_pkg m) in
         let not_removed : list_any it (removed_of request.done) ≡ false =
         is_false (list_any it (removed_of request.done)) (λ is.
-            let at = among it (removed_of request.done) is in
-            let gone = opposite (list_any (λ (k : Member). is_same_pkg (member_pkg k) at.one) state.members) (all_here (is_absent state) at.before at.one at.after (subst (λ (ps : List Pkg). list_all (is_absent state) ps ≡ true) at.stands only.absent)) in
-            let there = ap (list_any (λ (k : Member). is_same_pkg (member_pkg k) at.one)) stands ∙ any_here (λ (k : Member). is_same_pkg (member_pkg k) at.one) before m after at.passes in
-            false≢true (sym gone ∙ there)) in
+        let at = among it (removed_of request.done) is in
+        let gone = opposite (list_any (λ (k : Member). is_same_pkg (member_pkg k) at.one) state.members) (all_here (is_absent state) at.before at.one at.after (subst (λ (ps : List Pkg). list_all (is_absent state) ps ≡ true) at.stands only.absent)) in
+        let there = ap (list_any (λ (k : Member). is_same_pkg (member_pkg k) at.one)) stands ∙ any_here (λ (k : Member). is_same_pkg (member_pkg k) at.one) before m after at.passes in
+        false≢true (sym gone ∙ there)) in
         let not_one : list_any it request.removals ≡ false =
         ap (list_any it) (sym under.removed ∙ ap (λ (ps : List Pkg). removed_of request.done ++ ps) left)
         ∙ list_any-append it (removed_of request.done) (pkg ∷ rest)
@@ -323,9 +323,9 @@ module _ (pkg : Pkg) (state : SwitchState) (request : Request) (rest : List Pkg)
   unneeded edges under =
       let only = only_removes state request pkg rest left under.first in
       is_false (list_any (λ (m : Member). is_other_member pkg m && is_run_with m.package.items pkg.name) state.members) (λ is.
-          let at = among (λ (m : Member). is_other_member pkg m && is_run_with m.package.items pkg.name) state.members is in
-          let other = opposite (is_same_pkg (member_pkg at.one) pkg) (and_left (is_other_member pkg at.one) (is_run_with at.one.package.items pkg.name) at.passes) in
-          false≢true (sym (runs_not at.before at.after at.one at.stands other edges under only) ∙ and_right (is_other_member pkg at.one) (is_run_with at.one.package.items pkg.name) at.passes))
+      let at = among (λ (m : Member). is_other_member pkg m && is_run_with m.package.items pkg.name) state.members is in
+      let other = opposite (is_same_pkg (member_pkg at.one) pkg) (and_left (is_other_member pkg at.one) (is_run_with at.one.package.items pkg.name) at.passes) in
+      false≢true (sym (runs_not at.before at.after at.one at.stands other edges under only) ∙ and_right (is_other_member pkg at.one) (is_run_with at.one.package.items pkg.name) at.passes))
 
 -- by a removal that can follow
 pub next_unneeded : (number : ℕ) (pkg : Pkg) (kept : Option KeptFiles) (state : SwitchState) → CanFollow number (Removes pkg kept) state → RemovesFirst state → EdgesPointBefore state.members → NamesDiffer state.members → IfSome state.request (RequestIsSound state) → IsUnneeded pkg state
