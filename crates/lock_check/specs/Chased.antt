@@ -1,5 +1,5 @@
 -- What an `install` comes to while packages are read one after another (this project's own).
-use Rattle.std.specs.Prelude.{◌≡◌, ℕ, ◌-◌, ◌^◌, min, List, [], ◌∷◌, ◌++◌, filter, find, length, map, Bool, false, not, bytes_eq, ◌&&◌, is_none, if◌then◌else◌}
+use Rattle.std.specs.Prelude.{◌≡◌, ℕ, ◌-◌, ◌^◌, min, List, [], ◌∷◌, ◌++◌, filter, find, length, map, Bool, true, false, not, bytes_eq, ◌&&◌, is_none, if◌then◌else◌, Contains}
 use Rattle.std.specs.List.{list_any}
 use Rattle.std.specs.declared.option.Option.{Option}
 use Rattle.std.specs.declared.option.Option.TheVariants.{None, Some}
@@ -95,6 +95,10 @@ leads chased name = bound_among chased.bound (formula_names chased (bound_to cha
 -- the needed names are the least that have those that are asked for, and all to which each of them leads
 abbrev pub IsNeeded : Chased → Type 0
 IsNeeded chased = IsLeast (starts chased.bound chased.asked) (leads chased) chased.needed
+
+-- each that was read is needed
+abbrev pub AreReadNeeded : Chased → Type 0
+AreReadNeeded chased = (member : Member) → Contains chased.known member → is_among chased.needed (member_name member) ≡ true
 
 -- a bound package is to be read: it is needed, not installed at that version, and was not read
 abbrev pub is_awaited : Chased → Pkg → Bool

@@ -3,6 +3,7 @@ ghost use Rattle.std.specs.Prelude.{[], ◌≡◌, ◌++◌, IfOk, OnErr, OnOk, 
 ghost use Rattle.std.specs.List.{IsDistinct};
 ghost use Rattle.std.specs.Option.{option_copied};
 ghost use Rattle.std.specs.declared.option.Option.TheVariants.{None};
+ghost use Rattle.opam_names.specs.ByteOrders.{RisesBy};
 ghost use Rattle.opam_filter.specs.Sets.{Rises};
 ghost use Rattle.lock_check.specs.Chased as chased;
 ghost use Rattle.lock_check.specs.Given.{IsGiven};
@@ -135,6 +136,8 @@ impl Chase {
         ensures target { IfOk result (λ made. made.0
             ≡ chased.install_target self installed.now roots.now) }
         ensures violations { IfOk result (λ made. made.1 ≡ chased.install_violations self made.0) }
+        ensures rises { IfOk result (λ made. RisesBy member_name made.0.members) }
+        ensures needed { chased.AreReadNeeded self }
     {
         order_is_stable::<Held>();
         let Chase { sources, progress } = self;

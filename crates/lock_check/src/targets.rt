@@ -166,6 +166,7 @@ pub fn reinstall_target(
     ensures target { IfOk result (λ made. made.0 ≡ reinstalled installed.now names.now roots.now) }
     ensures violations { IfOk result (λ made. made.1
         ≡ reinstall_violations installed.now names.now) }
+    ensures rises { IfOk result (λ made. RisesBy member_name made.0.members) }
 {
     let members = sort_members(alloc, installed)?;
     let set = pkgs_of(alloc, members.as_slice())?;

@@ -3,7 +3,7 @@ use Rattle.std.specs.Prelude.{bytes_eq}
 use Rattle.std.specs.List.{IsDistinct}
 use Rattle.opam_names.specs.ByteOrders.{each_once, in_order_by}
 use Rattle.opam_package.specs.declared.package.Member.{Member}
-use Rattle.lock_check.specs.Chased.{Chased, install_target, install_violations, starts, stay}
+use Rattle.lock_check.specs.Chased.{AreReadNeeded, Chased, install_target, install_violations, starts, stay}
 use Rattle.lock_check.specs.Progressing.{chased_with}
 use Rattle.lock_check.specs.Targets.{by_name, has_member, member_name}
 use Rattle.lock_check.proofs.Standing.{members_differ}
@@ -45,3 +45,10 @@ returns-clause-target c =
 
 pub returns-clause-violations : goal.returns-clause-violations
 returns-clause-violations c = c.in_ok-told.ensures ∙ ap (λ (s : Chased). install_violations s c.in_ok-target.target) c.self.view_is
+
+pub returns-clause-rises : goal.returns-clause-rises
+returns-clause-rises c = c.in_ok-target.ensures.rises
+
+pub returns-clause-needed : goal.returns-clause-needed
+returns-clause-needed c =
+    let P : Chased → Type 0 = λ s. AreReadNeeded s in subst P c.self.view_is (λ member at. (c.self.invariant.are_read member at).needed)
