@@ -3,6 +3,7 @@
 #![tactic(auto)]
 
 mod calls;
+mod contents;
 mod journal;
 mod lists;
 mod names;
@@ -11,8 +12,10 @@ mod owners;
 mod paths;
 mod reports;
 mod spellings;
+mod steps;
 mod words;
 
+use contents::Step;
 use owner_map::Owners;
 use row_script::answers::{as_it_is, stands_for_itself, with_answer, write_line};
 use row_script::devices::Devices;
@@ -47,6 +50,7 @@ fn reply(alloc: Global, line: &[u8], world: &mut World) -> Result<String, AllocE
 struct World {
     devices: Devices,
     owners: Owners,
+    steps: Vec<Step>,
 }
 
 impl World {
@@ -54,6 +58,7 @@ impl World {
         World {
             devices: Devices::new(alloc),
             owners: Owners::empty(alloc),
+            steps: Vec::new(alloc),
         }
     }
 }
@@ -66,7 +71,11 @@ fn answer(alloc: Global, line: &[u8], world: &mut World) -> Result<String, Fault
         known => return known,
     }
     match answer_devices(alloc, call, &mut world.devices) {
-        Err(Fault::Unknown) => owners::answer(alloc, call, &mut world.owners),
+        Err(Fault::Unknown) => {}
+        known => return known,
+    }
+    match owners::answer(alloc, call, &mut world.owners) {
+        Err(Fault::Unknown) => contents::answer(alloc, call, &mut world.steps),
         known => known,
     }
 }
@@ -108,7 +117,11 @@ fn answer_devices(alloc: Global, call: &Call, devices: &mut Devices) -> Result<S
         known => return known,
     }
     match journal::answer(alloc, call, devices) {
-        Err(Fault::Unknown) => openings::answer(alloc, call, devices),
+        Err(Fault::Unknown) => {}
+        known => return known,
+    }
+    match openings::answer(alloc, call, devices) {
+        Err(Fault::Unknown) => steps::answer(alloc, call, devices),
         known => known,
     }
 }

@@ -14,6 +14,9 @@ use switch_journal::{Done, Journal, Kept, Open, OpenFault, Standing};
 /// Longer files are not shown.
 const LONGEST_SHOWN: u64 = 100;
 
+/// Of more packages in a target the number is shown.
+const MOST_LISTED: usize = 20;
+
 /// No record of these scripts puts or takes more paths together with those that are looked at then.
 const LAST_CALLS: u64 = 7;
 
@@ -35,7 +38,7 @@ fn recover(alloc: Global, devices: &mut Devices, words: &[Word]) -> Result<Strin
     answer
 }
 
-fn paths_of(alloc: Global, words: &[Word]) -> Result<Items<RelPath>, Fault> {
+pub fn paths_of(alloc: Global, words: &[Word]) -> Result<Items<RelPath>, Fault> {
     let mut paths = Items::new(alloc);
     for word in words {
         paths.push(path_of(alloc, word)?)?;
@@ -78,7 +81,7 @@ fn show_opened(
     Ok(text)
 }
 
-fn push_standing(text: &mut String, standing: &[Standing]) -> Result<(), Fault> {
+pub fn push_standing(text: &mut String, standing: &[Standing]) -> Result<(), Fault> {
     for s in standing {
         text.push_str(" ")?;
         push_pkg(text, &s.entry.pkg)?;
@@ -88,13 +91,13 @@ fn push_standing(text: &mut String, standing: &[Standing]) -> Result<(), Fault> 
     Ok(())
 }
 
-fn push_pkg(text: &mut String, pkg: &Pkg) -> Result<(), Fault> {
+pub fn push_pkg(text: &mut String, pkg: &Pkg) -> Result<(), Fault> {
     text.push_str(pkg.name.as_str())?;
     text.push_str(".")?;
     Ok(text.push_str(pkg.version.as_str())?)
 }
 
-fn push_names(text: &mut String, names: &[Name]) -> Result<(), Fault> {
+pub fn push_names(text: &mut String, names: &[Name]) -> Result<(), Fault> {
     for name in names {
         text.push_str(" ")?;
         text.push_str(name.as_str())?;
@@ -102,7 +105,7 @@ fn push_names(text: &mut String, names: &[Name]) -> Result<(), Fault> {
     Ok(())
 }
 
-fn push_request(text: &mut String, request: &Open) -> Result<(), Fault> {
+pub fn push_request(text: &mut String, request: &Open) -> Result<(), Fault> {
     text.push_str("; target")?;
     push_entries(text, request.target.as_slice())?;
     text.push_str("; removals")?;
@@ -115,6 +118,11 @@ fn push_request(text: &mut String, request: &Open) -> Result<(), Fault> {
 }
 
 fn push_entries(text: &mut String, entries: &[Entry]) -> Result<(), Fault> {
+    let count = entries.len();
+    if count > MOST_LISTED {
+        write!(text, " {count} packages")?;
+        return Ok(());
+    }
     for entry in entries {
         text.push_str(" ")?;
         push_pkg(text, &entry.pkg)?;
