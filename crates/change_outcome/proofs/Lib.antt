@@ -7,3 +7,4 @@ pub mod Lists
 pub mod Clearing
 pub mod Filling
 pub mod Following
+pub mod Spelling

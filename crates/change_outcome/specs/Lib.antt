@@ -5,5 +5,6 @@ pub mod PutBacks
 pub mod Outcomes
 pub mod ScheduleLaws
 pub mod Running
+pub mod SpellingLaws
 pub mod ForeignLaws
 pub mod OutsideLaws

@@ -3,6 +3,7 @@ ghost use Rattle.change_outcome.specs.ForeignLaws.{ForeignFilesStay};
 ghost use Rattle.change_outcome.specs.OutsideLaws.{ActionsStayOutside, PutBacksSeeOutside, RemovalsSeeOutside, VerdictsSeeOutside};
 ghost use Rattle.change_outcome.specs.Running.{ActionsCanFollow};
 ghost use Rattle.change_outcome.specs.ScheduleLaws.{SchedulesGiveTheOutcome};
+ghost use Rattle.change_outcome.specs.SpellingLaws.{InstallsAreSpelled, PutBacksAreSpelled};
 
 use change_floor::schedule_does_not_decide;
 
@@ -29,4 +30,10 @@ pub fn the_journal_is_not_seen()
 /// Each removal and install of a change that may be run can follow on the state where its turn comes.
 pub fn actions_can_follow()
     ensures { ActionsCanFollow }
+{}
+
+/// The record of an install whose files can be placed is not too long, nor is that of a put back.
+pub fn records_are_spelled()
+    ensures installs { InstallsAreSpelled }
+    ensures put_backs { PutBacksAreSpelled }
 {}
