@@ -32,18 +32,18 @@ use Rattle.change_outcome.proofs.Schedules.{fold_append}
 
 -- ---- one decision more
 
-abbrev step_point : Point → Option Action → Point
+abbrev pub step_point : Point → Option Action → Point
 step_point point None = point
 step_point point (Some action) = point_after point action
 
-then_next : (start : Point) (before : List Decided) (next : Decided) → point_then start (before ++ next ∷ []) ≡ step_point (point_then start before) next.does
+pub then_next : (start : Point) (before : List Decided) (next : Decided) → point_then start (before ++ next ∷ []) ≡ step_point (point_then start before) next.does
 then_next start before next = ap (point_after_all start) (filter_push (λ (one : Decided). one.does) before next next.does refl) ∙ by next.does
   where
     by : (does : Option Action) → point_after_all start (done_in before ++ cons_option does []) ≡ step_point (point_then start before) does
     by None = ap (point_after_all start) (append-nil (done_in before))
     by (Some action) = fold_append point_after start (done_in before) (action ∷ [])
 
-counted : (change : Change) (start : Point) (n : ℕ) → length (which_done (first_decided change start n)) ≡ n
+pub counted : (change : Change) (start : Point) (n : ℕ) → length (which_done (first_decided change start n)) ≡ n
 counted change start zero = refl
 counted change start (suc n) =
     let before : List Decided = first_decided change start n in
@@ -56,13 +56,13 @@ counted change start (suc n) =
 
 -- ---- whose turn it is
 
-removal_turn : (change : Change) (before : List Decided) (n at : ℕ) → length (which_done before) ≡ n → slice_get change.plan.removals n ≡ Some at → turn_after change before ≡ Remove at
+pub removal_turn : (change : Change) (before : List Decided) (n at : ℕ) → length (which_done before) ≡ n → slice_get change.plan.removals n ≡ Some at → turn_after change before ≡ Remove at
 removal_turn change before n at long there =
     let place : ℕ = length (which_done before) - length change.plan.removals in
     let later : Turn = turn_at (slice_get change.plan.installs place) change.plan (which_done before) (Some (change.built place).fate) in
     ap (λ o. first_turn o later) (ap (slice_get change.plan.removals) long ∙ there)
 
-install_turn_at : (change : Change) (before : List Decided) (n i : ℕ) (step : Step) → length (which_done before) ≡ n → n ≡ length change.plan.removals + i → slice_get change.plan.installs i ≡ Some step
+pub install_turn_at : (change : Change) (before : List Decided) (n i : ℕ) (step : Step) → length (which_done before) ≡ n → n ≡ length change.plan.removals + i → slice_get change.plan.installs i ≡ Some step
     → (fate : Fate) × (turn_after change before ≡ install_turn step.member (lacking change.plan (which_done before) step.needs) (Some fate))
 install_turn_at change before n i step long is there =
     let place : ℕ = length (which_done before) - length change.plan.removals in
@@ -81,7 +81,7 @@ data Stage (change : Change) (request : Request) (n : ℕ) (point : Point) : Typ
   over : length change.plan.removals + length change.plan.installs ≤ n → Stage change request n point
 
 module _ (change : Change) (start : Point) (can : CanRun change start) where
-  some_entry : (at : ℕ) → nat_lt at (length change.entries) ≡ true → (entry : Member) × (slice_get change.entries at ≡ Some entry)
+  pub some_entry : (at : ℕ) → nat_lt at (length change.entries) ≡ true → (entry : Member) × (slice_get change.entries at ≡ Some entry)
   some_entry at lt = get_in change.entries at (below at (length change.entries) lt)
     where
       below : (n m : ℕ) → nat_lt n m ≡ true → n < m
@@ -90,22 +90,22 @@ module _ (change : Change) (start : Point) (can : CanRun change start) where
   entry_given : (at : ℕ) → nat_lt at (length change.entries) ≡ true → is_some (option_map member_pkg (slice_get change.entries at)) ≡ true
   entry_given at lt = ap (λ o. is_some (option_map member_pkg o)) (some_entry at lt).1
 
-  all_entries : list_all (λ at. is_some (option_map member_pkg (slice_get change.entries at))) change.plan.removals ≡ true
+  pub all_entries : list_all (λ at. is_some (option_map member_pkg (slice_get change.entries at))) change.plan.removals ≡ true
   all_entries = all_more (λ at. nat_lt at (length change.entries)) (λ at. is_some (option_map member_pkg (slice_get change.entries at))) change.plan.removals entry_given can.removals
 
-  some_member : (step : Step) → nat_lt step.member (length change.members) ≡ true → (member : Member) × (slice_get change.members step.member ≡ Some member)
+  pub some_member : (step : Step) → nat_lt step.member (length change.members) ≡ true → (member : Member) × (slice_get change.members step.member ≡ Some member)
   some_member step lt = get_in change.members step.member (below step.member (length change.members) lt)
     where
       below : (n m : ℕ) → nat_lt n m ≡ true → n < m
       below n m is = grind (arith, nat_tests)
 
-  all_members : list_all (λ (step : Step). is_some (slice_get change.members step.member)) change.plan.installs ≡ true
+  pub all_members : list_all (λ (step : Step). is_some (slice_get change.members step.member)) change.plan.installs ≡ true
   all_members = all_more (λ (step : Step). nat_lt step.member (length change.members)) (λ (step : Step). is_some (slice_get change.members step.member)) change.plan.installs (λ step lt. ap is_some (some_member step lt).1) can.installs
 
-  as_many_leave : length (leaving change) ≡ length change.plan.removals
+  pub as_many_leave : length (leaving change) ≡ length change.plan.removals
   as_many_leave = length_given (λ at. option_map member_pkg (slice_get change.entries at)) change.plan.removals all_entries
 
-  as_many_come : length (coming change) ≡ length change.plan.installs
+  pub as_many_come : length (coming change) ≡ length change.plan.installs
   as_many_come = length_given (λ (step : Step). slice_get change.members step.member) change.plan.installs all_members
 
   at_installs : (n : ℕ) (point : Point) (front left : List Member) → coming change ≡ front ++ left → length change.plan.removals + length front ≡ n → Filled change front point → Stage change can.request n point

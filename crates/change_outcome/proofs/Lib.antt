@@ -8,3 +8,4 @@ pub mod Clearing
 pub mod Filling
 pub mod Following
 pub mod Spelling
+pub mod Whole

@@ -23,6 +23,15 @@ is_wanting (Aborted pkg need) = true
 is_wanting (PutBack pkg) = false
 is_wanting (NotPutBack pkg why) = false
 
+-- a package was tried and failed
+abbrev pub is_failed : Decision → Bool
+is_failed (Removed pkg) = false
+is_failed (Installed pkg) = false
+is_failed (Failed pkg reason) = true
+is_failed (Aborted pkg need) = false
+is_failed (PutBack pkg) = false
+is_failed (NotPutBack pkg why) = false
+
 -- the status of a change of which this was told
 abbrev pub status_of : List Decision → ℕ
 status_of decisions = if list_any is_wanting decisions then 31 else 0

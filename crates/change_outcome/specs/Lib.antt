@@ -6,5 +6,6 @@ pub mod Outcomes
 pub mod ScheduleLaws
 pub mod Running
 pub mod SpellingLaws
+pub mod SuccessLaws
 pub mod ForeignLaws
 pub mod OutsideLaws

@@ -4,6 +4,7 @@ ghost use Rattle.change_outcome.specs.OutsideLaws.{ActionsStayOutside, PutBacksS
 ghost use Rattle.change_outcome.specs.Running.{ActionsCanFollow};
 ghost use Rattle.change_outcome.specs.ScheduleLaws.{SchedulesGiveTheOutcome};
 ghost use Rattle.change_outcome.specs.SpellingLaws.{InstallsAreSpelled, PutBacksAreSpelled};
+ghost use Rattle.change_outcome.specs.SuccessLaws.{SuccessIsWhole};
 
 use change_floor::schedule_does_not_decide;
 
@@ -36,4 +37,9 @@ pub fn actions_can_follow()
 pub fn records_are_spelled()
     ensures installs { InstallsAreSpelled }
     ensures put_backs { PutBacksAreSpelled }
+{}
+
+/// Where no install fails, none is given up, and all that was to come is installed.
+pub fn success_is_whole()
+    ensures { SuccessIsWhole }
 {}

@@ -5,5 +5,5 @@ mod laws;
 
 pub use laws::{
     actions_can_follow, foreign_files_stay, records_are_spelled, schedules_give_the_outcome,
-    the_journal_is_not_seen,
+    success_is_whole, the_journal_is_not_seen,
 };
