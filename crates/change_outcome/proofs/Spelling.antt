@@ -1,26 +1,20 @@
 -- How long the records of actions are.
-use Rattle.std.proofs.Common.{◌≡◌, ℕ, ◌+◌, ◌*◌, ◌<◌, ◌≤◌, List, [], ◌∷◌, ◌++◌, Bool, true, false, length, refl, sym, ap, ◌∙◌, subst, arith, Some}
+use Rattle.std.proofs.Common.{◌≡◌, ℕ, ◌+◌, ◌*◌, ◌≤◌, List, [], ◌∷◌, ◌++◌, Bool, true, false, length, refl, ap, arith, Some}
 use Rattle.std.specs.Prelude.{codes}
 use Rattle.std.specs.Int.{to_be_bytes, w16, w32}
 use Rattle.std.specs.List.{All, flat_map}
 use Rattle.std.proofs.lemmas.List.{length-append}
 use Rattle.std.proofs.lemmas.List.Elements.{All-head, All-tail}
-use Rattle.opam_names.specs.declared.limits.TheConstants.{NAME_LIMIT, PATH_LIMIT, VERSION_LIMIT}
+use Rattle.opam_names.specs.declared.limits.TheConstants.{PATH_LIMIT}
 use Rattle.opam_names.specs.declared.packages.Pkg.{Pkg}
-use Rattle.opam_package.specs.declared.limits.TheConstants.{OPAM_LIMIT}
-use Rattle.opam_package.specs.declared.package.Member.{Member}
-use Rattle.owner_map.specs.declared.owned.OwnedPath.{OwnedPath}
-use Rattle.journal_text.specs.Parts.{IsComingValid, IsPlaced, coming_bytes, contents_bytes, pkg_bytes, placed_bytes, removal_bytes}
+use Rattle.journal_text.specs.Parts.{IsPlaced, coming_bytes, contents_bytes, pkg_bytes, placed_bytes, removal_bytes}
 use Rattle.journal_text.specs.Records.{record_bytes}
 use Rattle.journal_text.specs.Words.{counted, flag, long_text, short_text}
 use Rattle.journal_text.specs.declared.record.KeptFiles.{KeptFiles}
 use Rattle.journal_text.specs.declared.record.Placed.{Placed}
 use Rattle.journal_text.specs.declared.record.Rec.TheVariants.{Install, PutBack, Remove}
-use Rattle.journal_text.specs.declared.record.TheConstants.{RECORD_LIMIT}
-use Rattle.install_sections.specs.declared.limits.TheConstants.{ITEM_LIMIT}
 use Rattle.switch_state.specs.Sound.{member_pkg}
-use Rattle.change_verdict.specs.Verdicts.{CanBePlaced, bytes_total}
-use Rattle.change_verdict.specs.declared.limits.TheConstants.{FILES_LIMIT}
+use Rattle.change_verdict.specs.Verdicts.{bytes_total}
 use Rattle.change_outcome.specs.SpellingLaws.{InstallsAreSpelled, PutBacksAreSpelled}
 
 short_len : (text : List ℕ) → length (short_text text) ≡ 2 + length text

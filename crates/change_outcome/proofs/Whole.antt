@@ -1,6 +1,6 @@
 -- Where no install fails, all are done.
-use Rattle.std.proofs.Common.{◌≡◌, ℕ, zero, suc, ◌+◌, ◌-◌, ◌<◌, ◌≤◌, List, [], ◌∷◌, ◌++◌, map, filter, length, Bool, true, false, not, cond, Option, Some, None, refl, sym, ap, ◌∙◌, subst, arith, append_assoc}
-use Rattle.std.specs.Prelude.{◌||◌, ◌&&◌, filter_map, is_some, nat_lt, slice_get, slice_index_or}
+use Rattle.std.proofs.Common.{◌≡◌, ℕ, zero, suc, ◌+◌, ◌<◌, List, [], ◌∷◌, ◌++◌, filter, length, Bool, true, false, not, cond, Option, Some, refl, sym, ap, ◌∙◌, subst, arith, append_assoc}
+use Rattle.std.specs.Prelude.{◌||◌, is_some, nat_lt, slice_get, slice_index_or}
 use Rattle.std.specs.List.{cons_option, list_all, list_any}
 use Rattle.std.specs.Option.{option_map}
 use Rattle.std.proofs.lemmas.Bool.{false≢true}
@@ -10,10 +10,8 @@ use Rattle.opam_names.specs.declared.packages.Pkg.{Pkg}
 use Rattle.opam_package.specs.declared.package.Member.{Member}
 use Rattle.action_graph.specs.declared.plan.Plan.{Plan}
 use Rattle.action_graph.specs.declared.plan.Step.{Step}
-use Rattle.change_floor.specs.Floors.{has_installed, install_place, install_turn, is_done_at, is_there, lacking, least_of}
-use Rattle.change_floor.specs.declared.turn.Turn.{Turn}
+use Rattle.change_floor.specs.Floors.{has_installed, install_place, install_turn, is_done_at, is_there, least_of}
 use Rattle.journal_text.specs.declared.record.KeptFiles.{KeptFiles}
-use Rattle.outside_io.specs.declared.workshop.Fate.{Fate}
 use Rattle.switch_state.specs.Actions.{Action, Installs, Removes}
 use Rattle.switch_state.specs.Keeps.{kept_of}
 use Rattle.switch_state.specs.Sound.{member_pkg}
@@ -28,7 +26,7 @@ use Rattle.change_outcome.specs.Decisions.{Decision, is_failed, is_wanting}
 use Rattle.change_outcome.specs.Outcomes.{actions_decided, first_decided, turn_after}
 use Rattle.change_outcome.specs.Running.{CanRun, coming, leaving, staying, stays_by}
 use Rattle.change_outcome.specs.Steps.{Decided, decided_on, install_of, install_with, point_then, removal_of, told_in, which_done}
-use Rattle.change_outcome.specs.SuccessLaws.{IsWhole, NeedsAreMet, SuccessIsWhole, is_met_before}
+use Rattle.change_outcome.specs.SuccessLaws.{NeedsAreMet, SuccessIsWhole, is_met_before}
 use Rattle.change_outcome.proofs.Clearing.{Cleared, cleared_first, cleared_next}
 use Rattle.change_outcome.proofs.Following.{all_entries, all_members, as_many_come, as_many_leave, counted, install_turn_at, removal_turn, some_entry, some_member, step_point, then_next}
 use Rattle.change_outcome.proofs.Lists.{all_at, all_push, and_left, and_right, any_front, any_push, both, get_front, get_given, get_in, or_right}

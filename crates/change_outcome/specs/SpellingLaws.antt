@@ -1,7 +1,6 @@
 -- The records of actions can be spelled: they are not too long. This project's own.
-use Rattle.std.specs.Prelude.{◌≡◌, ◌≤◌, ℕ, List, length}
+use Rattle.std.specs.Prelude.{◌≡◌, ◌≤◌, List, length}
 use Rattle.std.specs.declared.option.Option.TheVariants.{Some}
-use Rattle.opam_names.specs.declared.packages.Pkg.{Pkg}
 use Rattle.opam_package.specs.declared.limits.TheConstants.{OPAM_LIMIT}
 use Rattle.opam_package.specs.declared.package.Member.{Member}
 use Rattle.owner_map.specs.declared.owned.OwnedPath.{OwnedPath}
