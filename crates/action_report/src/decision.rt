@@ -2,8 +2,9 @@
 ghost use Rattle.std.specs.Prelude.{◌≡◌};
 ghost use Rattle.action_report.specs.Reports.{is_done, is_installed, is_removed, is_failed, is_aborted};
 
-use opam_names::{Pkg, RelPath};
-use outside_io::Ending;
+use back_verdict::Why;
+use change_verdict::Reason;
+use opam_names::Pkg;
 
 /// What was decided of a package.
 #[derive(Drop)]
@@ -14,14 +15,19 @@ pub enum Decision {
     Failed(Pkg, Reason),
     /// It was not tried: the second package is the need that is not installed.
     Aborted(Pkg, Pkg),
+    /// It was removed, its new version did not come, and it is installed again.
+    PutBack(Pkg),
+    /// It was removed, its new version did not come, and it stays away.
+    NotPutBack(Pkg, Why),
 }
 
 impl Decision {
-    /// Whether what was to be done of the package is done: it is installed or removed.
+    /// Whether nothing that was asked of the package is left undone: it neither failed nor was aborted. Nobody asks for what is put
+    /// back.
     pub fn is_done(&self) -> bool
         ensures { result ≡ is_done self.now }
     {
-        self.is_installed() || self.is_removed()
+        !(self.is_failed() || self.is_aborted())
     }
 
     pub(crate) fn is_installed(&self) -> bool
@@ -47,29 +53,4 @@ impl Decision {
     {
         matches!(self, Decision::Aborted(_, _))
     }
-}
-
-/// Why a package failed.
-#[derive(Drop)]
-pub enum Reason {
-    /// A step of its job, and how that ended. Step 0 prepares the build folder, step k is the k-th command.
-    Step(u32, Ending),
-    /// Its install text cannot be read.
-    InstallUnreadable,
-    /// Its install text is too long.
-    InstallTooLong,
-    /// Its install text asks for what is not built yet.
-    InstallNotBuilt,
-    /// The source in the build folder that is not there.
-    Missing(RelPath),
-    /// The source in the build folder that cannot be read.
-    Unreadable(RelPath),
-    /// Its files are too long together.
-    FilesTooLong,
-    /// The path to place, and the package that owns it.
-    Owned(RelPath, Pkg),
-    /// The path to place, which meets a file that no package owns.
-    Foreign(RelPath),
-    /// The switch would hold too many files.
-    SwitchFull,
 }

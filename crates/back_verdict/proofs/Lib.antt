@@ -1,0 +1,4 @@
+mod Leasts
+mod Lists
+mod Rooms
+mod Sorting

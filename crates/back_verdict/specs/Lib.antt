@@ -1,1 +1,3 @@
 pub mod Backs
+pub mod BackLaws
+pub mod Searches

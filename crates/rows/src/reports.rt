@@ -1,6 +1,8 @@
 // Calls of `action_report`.
-use action_report::{Decision, Reason, line_of, summary};
-use opam_names::{Pkg, RelPath};
+use action_report::{Decision, line_of, summary};
+use back_verdict::Why;
+use change_verdict::Reason;
+use opam_names::{Pkg, RelPath, Text};
 use row_script::devices::ending_of;
 use row_script::fault::Fault;
 use row_script::lexer::Word;
@@ -52,6 +54,8 @@ fn decided(alloc: Global, word: &Word) -> Result<Decision, Fault> {
     match word.text()? {
         "installed" => Ok(Decision::Installed(pkg)),
         "removed" => Ok(Decision::Removed(pkg)),
+        "put-back" => Ok(Decision::PutBack(pkg)),
+        "not-put-back" => Ok(Decision::NotPutBack(pkg, Why::NotKept)),
         "failed" => Ok(Decision::Failed(pkg, Reason::SwitchFull)),
         "aborted" => {
             let need = pkg.copy(alloc)?;
@@ -77,6 +81,7 @@ fn done(what: &str, pkg: Pkg) -> Result<Decision, Fault> {
     match what {
         "installed" => Ok(Decision::Installed(pkg)),
         "removed" => Ok(Decision::Removed(pkg)),
+        "put-back" => Ok(Decision::PutBack(pkg)),
         _ => Err(Fault::Line(NO_DECISION)),
     }
 }
@@ -91,6 +96,7 @@ fn undone(
     match what {
         "aborted" => aborted(alloc, pkg, cause, parts),
         "failed" => Ok(Decision::Failed(pkg, reason_of(alloc, cause.text()?, parts)?)),
+        "not-put-back" => Ok(Decision::NotPutBack(pkg, why_of(alloc, cause.text()?, parts)?)),
         _ => Err(Fault::Line(NO_DECISION)),
     }
 }
@@ -109,6 +115,7 @@ fn reason_of(alloc: Global, reason: &str, parts: &[Word]) -> Result<Reason, Faul
         [] => bare_reason(reason),
         [path] => path_reason(reason, path_of(alloc, path)?),
         [one, other] => pair_reason(alloc, reason, one, other),
+        [path, other, owner] => meets_reason(alloc, reason, path, other, owner),
         _ => Err(Fault::Line(NO_REASON)),
     }
 }
@@ -117,7 +124,6 @@ fn bare_reason(reason: &str) -> Result<Reason, Fault> {
     match reason {
         "install-unreadable" => Ok(Reason::InstallUnreadable),
         "install-too-long" => Ok(Reason::InstallTooLong),
-        "install-not-built" => Ok(Reason::InstallNotBuilt),
         "files-too-long" => Ok(Reason::FilesTooLong),
         "switch-full" => Ok(Reason::SwitchFull),
         _ => Err(Fault::Line(NO_REASON)),
@@ -137,6 +143,60 @@ fn pair_reason(alloc: Global, reason: &str, one: &Word, other: &Word) -> Result<
     match reason {
         "step" => step_of(one, other),
         "owned" => Ok(Reason::Owned(path_of(alloc, one)?, pkg_of(alloc, other)?)),
+        _ => Err(Fault::Line(NO_REASON)),
+    }
+}
+
+fn meets_reason(
+    alloc: Global,
+    reason: &str,
+    path: &Word,
+    other: &Word,
+    owner: &Word,
+) -> Result<Reason, Fault> {
+    match reason {
+        "meets" => {
+            let path = path_of(alloc, path)?;
+            let other = path_of(alloc, other)?;
+            Ok(Reason::Meets(path, other, pkg_of(alloc, owner)?))
+        }
+        _ => Err(Fault::Line(NO_REASON)),
+    }
+}
+
+fn why_of(alloc: Global, why: &str, parts: &[Word]) -> Result<Why, Fault> {
+    match parts {
+        [] => bare_why(why),
+        [other] => pkg_why(why, pkg_of(alloc, other)?),
+        [one, other] => pair_why(alloc, why, one, other),
+        _ => Err(Fault::Line(NO_REASON)),
+    }
+}
+
+fn bare_why(why: &str) -> Result<Why, Fault> {
+    match why {
+        "not-kept" => Ok(Why::NotKept),
+        "unmet" => Ok(Why::Unmet),
+        "full" => Ok(Why::Full),
+        _ => Err(Fault::Line(NO_REASON)),
+    }
+}
+
+fn pkg_why(why: &str, other: Pkg) -> Result<Why, Fault> {
+    match why {
+        "conflict" => Ok(Why::Conflict(other)),
+        "late" => Ok(Why::Late(other)),
+        _ => Err(Fault::Line(NO_REASON)),
+    }
+}
+
+fn pair_why(alloc: Global, why: &str, one: &Word, other: &Word) -> Result<Why, Fault> {
+    match why {
+        "class" => {
+            let class = Text::from_str(alloc, one.text()?)?;
+            Ok(Why::Class(class, pkg_of(alloc, other)?))
+        }
+        "owned" => Ok(Why::Clash(pair_reason(alloc, why, one, other)?)),
         _ => Err(Fault::Line(NO_REASON)),
     }
 }

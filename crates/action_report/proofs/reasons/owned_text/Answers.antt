@@ -1,6 +1,10 @@
 use Rattle.std.proofs.Common.{◌++◌, ◌∙◌, ap, ℕ, List}
 use Rattle.std.specs.Prelude.{codes}
+use Rattle.opam_names.specs.Packages.{pkg_text}
+use Rattle.action_report.proofs.Texts.{three}
 use Rattle.action_report.proofs.reasons.owned_text.Goals as goal
 
 pub returns : goal.returns
-returns c = c.in_ok-format.ensures.ok ∙ ap (λ (owner : List ℕ). c.args.path.now ++ (codes " is owned by " ++ owner)) c.in_ok-owner.ensures
+returns c =
+    c.in_ok-format.ensures.ok ∙ ap (λ (owner : List ℕ). c.args.path.now ++ (codes " is owned by " ++ owner)) c.in_ok-owner.ensures
+    ∙ three c.args.path.now (codes " is owned by ") (pkg_text c.args.owner.now)
