@@ -3,7 +3,7 @@ ghost use Rattle.std.specs.Prelude.{◌≡◌, ◌+◌, ◌<◌, ◌≤◌, [], 
 ghost use Rattle.std.specs.List.{list_any};
 ghost use Rattle.std.specs.Option.{option_copied};
 ghost use Rattle.opam_names.specs.ByteOrders.{count_before, put_by};
-ghost use Rattle.path_order.specs.Apart.{meets};
+ghost use Rattle.path_order.specs.Apart.{AreApart, meets};
 ghost use Rattle.owner_map.specs.Clashes.{IsClash, IsFree, IsLeastMet, NoneClash};
 ghost use Rattle.owner_map.specs.Owning.{is_of_another, owned_by, owner_of, path_of, paths_of, paths_owned_by};
 ghost use Rattle.owner_map.specs.Searching.{Gathers, below_bound};
@@ -64,6 +64,13 @@ impl Owners {
         ensures { result ≡ length self.now.owned }
     {
         self.list.len()
+    }
+
+    /// Whoever holds owners knows that no owned path is above another.
+    pub fn stand_apart(&self)
+        ensures { AreApart (paths_of self.now.owned) }
+    {
+        let _list = &self.list;
     }
 
     /// The path at this place in byte order, and its owner.

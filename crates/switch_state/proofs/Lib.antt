@@ -23,3 +23,4 @@ pub mod Asked
 pub mod RequestKept
 pub mod UnderwayKept
 pub mod StaysSound
+pub mod Recovered

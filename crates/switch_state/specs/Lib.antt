@@ -12,3 +12,4 @@ pub mod Begins
 pub mod OpamTexts
 pub mod Gathering
 pub mod Telling
+pub mod Recovery

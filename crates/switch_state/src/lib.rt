@@ -4,16 +4,19 @@
 
 mod begins;
 mod ending;
+mod fault;
 mod kept_files;
 mod laws;
 mod prepared;
 mod preparing;
+mod recovery;
 mod removals;
 mod request;
 mod slots;
 mod switch;
 mod taking;
 
+pub use fault::SwitchFault;
 pub use laws::{
     actions_keep_form, begins_keep_form, begins_keep_sound, ends_keep_form, ends_keep_sound,
     installs_keep_sound, put_backs_keep_sound, removals_keep_sound, requests_remove_first,
