@@ -1,0 +1,4 @@
+mod Few
+mod Files
+mod Names
+mod Wells
