@@ -1,5 +1,6 @@
 pub mod Membership
 pub mod Finding
+pub mod Gathering
 pub mod Spreading
 pub mod Turning
 pub mod Orders

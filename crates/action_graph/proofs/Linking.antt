@@ -1,14 +1,15 @@
 -- What a package leads to, gathered by names.
 use Rattle.std.proofs.Common.{◌≡◌, ℕ, suc, eqb, ◌+◌, ◌<◌, ◌≤◌, ◌⊎◌, ◌&&◌, ◌||◌, not, inl, inr, Bool, true, false, cond, List, [], ◌∷◌, ◌++◌, length, get_or, map, take, sym, ap, refl, ◌∙◌, arith, subst}
-use Rattle.std.specs.Prelude.{slice_get, bytes_eq, Contains}
-use Rattle.std.specs.List.{IsDistinct, dedup, list_any}
+use Rattle.std.specs.Prelude.{slice_get, bytes_eq, Contains, OnOk, Result, Ok, Err}
+use Rattle.std.specs.List.{IsDistinct, dedup, flat_map, list_any}
 use Rattle.std.specs.List.Retain.{DiffersFromLast, IsFiltered}
 use Rattle.std.specs.List.Sorted.{IsPermutation, IsSorted}
 use Rattle.std.specs.Ordering.{nat_cmp}
 use Rattle.std.specs.declared.option.Option.{Option}
 use Rattle.std.specs.declared.option.Option.TheVariants.{None, Some}
 use Rattle.std.proofs.lemmas.Bool.{and_parts, or_cases, true≢false}
-use Rattle.std.proofs.lemmas.List.{get_or_default, take_more}
+use Rattle.std.proofs.lemmas.Grind.{flat_map-append}
+use Rattle.std.proofs.lemmas.List.{append-nil, get_or_default, take_more}
 use Rattle.std.proofs.lemmas.List.Folds.{list_any-append}
 use Rattle.std.proofs.lemmas.List.Filters.{dedup_is}
 use Rattle.std.proofs.lemmas.List.Kept.{Contains-dedup_nat, Contains-from_dedup}
@@ -19,9 +20,13 @@ use Rattle.opam_names.specs.ByteOrders.{has_key, place_of_key}
 use Rattle.opam_names.specs.declared.packages.Pkg.{Pkg}
 use Rattle.opam_names.proofs.ByteOrders.{equal_bytes, same_bytes}
 use Rattle.opam_names.proofs.RisingLists.{each_once_members}
-use Rattle.opam_filter.specs.Sets.{kept_names, layer_meets, meets, names}
+use Rattle.opam_filter.specs.NameSets.{in_byte_order}
+use Rattle.opam_names.specs.declared.fault.OutOfMemory.{OutOfMemory}
+use Rattle.opam_filter.specs.Sets.{kept_names, layer_kept, layer_meets, meets, names}
 use Rattle.opam_filter.specs.Reductions.{is_met}
-use Rattle.opam_filter.specs.declared.formula.Reduced.{Reduced, out-Reduced}
+use Rattle.opam_filter.specs.declared.formula.Reduced.{Reduced, out-Reduced, roll-Reduced}
+use Rattle.opam_filter.specs.declared.formula.Reduced.TheFolds.{fold-roll-Reduced, map-Reduced}
+use Rattle.opam_filter.specs.declared.formula.Reduced.TheViews.{roll-out-Reduced}
 use Rattle.opam_filter.specs.declared.formula.Reduced.TheOpen.{Reduced-F}
 use Rattle.opam_package.specs.Dependencies.{is_built_with, is_edge, is_need, is_other, is_run_with, meets_one, names_it}
 use Rattle.opam_package.specs.declared.package.Member.{Member}
@@ -146,17 +151,23 @@ pub names_none : (members : List Member) (dependent : Package) (before : List �
 names_none members dependent before =
     gathers_none members (is_named_by dependent []) before (λ p passes. true≢false (sym (and_parts (is_other dependent passes.0.package.pkg) false passes.2).1))
 
+-- names of two lists, one after another
+pub names_join : (members : List Member) (dependent : Package) (one other all : List (List ℕ)) (before now next : List ℕ)
+    → Gathers members (is_named_by dependent one) before now → Gathers members (is_named_by dependent other) now next → all ≡ one ++ other
+    → Gathers members (is_named_by dependent all) before next
+names_join members dependent one other all before now next first second is =
+    let split : (m : Member) → list_any (bytes_eq (name_of m)) all ≡ (list_any (bytes_eq (name_of m)) one || list_any (bytes_eq (name_of m)) other) =
+    λ m. ap (list_any (bytes_eq (name_of m))) is ∙ list_any-append (bytes_eq (name_of m)) one other in
+    gathers_both members (is_named_by dependent one) (is_named_by dependent other) (is_named_by dependent all) before now next first second
+    (λ m. either_part (is_other dependent m.package.pkg) (list_any (bytes_eq (name_of m)) one) (list_any (bytes_eq (name_of m)) other) (list_any (bytes_eq (name_of m)) all) (split m))
+    (λ m. left_part (is_other dependent m.package.pkg) (list_any (bytes_eq (name_of m)) one) (list_any (bytes_eq (name_of m)) other) (list_any (bytes_eq (name_of m)) all) (split m))
+    (λ m. right_part (is_other dependent m.package.pkg) (list_any (bytes_eq (name_of m)) one) (list_any (bytes_eq (name_of m)) other) (list_any (bytes_eq (name_of m)) all) (split m))
+
 pub names_next : (members : List Member) (dependent : Package) (all : List (List ℕ)) (i : ℕ) (d : List ℕ) (before now next : List ℕ)
     → Gathers members (is_named_by dependent (take i all)) before now → i < length all → Gathers members (is_named_by dependent (get_or all i d ∷ [])) now next
     → Gathers members (is_named_by dependent (take (i + 1) all)) before next
 names_next members dependent all i d before now next so_far below one =
-    let names_are = take_more all i d below in
-    let split : (m : Member) → list_any (bytes_eq (name_of m)) (take (i + 1) all) ≡ (list_any (bytes_eq (name_of m)) (take i all) || list_any (bytes_eq (name_of m)) (get_or all i d ∷ [])) =
-    λ m. ap (list_any (bytes_eq (name_of m))) names_are ∙ list_any-append (bytes_eq (name_of m)) (take i all) (get_or all i d ∷ []) in
-    gathers_both members (is_named_by dependent (take i all)) (is_named_by dependent (get_or all i d ∷ [])) (is_named_by dependent (take (i + 1) all)) before now next so_far one
-    (λ m. either_part (is_other dependent m.package.pkg) (list_any (bytes_eq (name_of m)) (take i all)) (list_any (bytes_eq (name_of m)) (get_or all i d ∷ [])) (list_any (bytes_eq (name_of m)) (take (i + 1) all)) (split m))
-    (λ m. left_part (is_other dependent m.package.pkg) (list_any (bytes_eq (name_of m)) (take i all)) (list_any (bytes_eq (name_of m)) (get_or all i d ∷ [])) (list_any (bytes_eq (name_of m)) (take (i + 1) all)) (split m))
-    (λ m. right_part (is_other dependent m.package.pkg) (list_any (bytes_eq (name_of m)) (take i all)) (list_any (bytes_eq (name_of m)) (get_or all i d ∷ [])) (list_any (bytes_eq (name_of m)) (take (i + 1) all)) (split m))
+    names_join members dependent (take i all) (get_or all i d ∷ []) (take (i + 1) all) before now next so_far one (take_more all i d below)
 
 -- ---- an atom
 
@@ -333,17 +344,67 @@ both_parts members dependent named is_with none one all said first second =
     (λ m. left_part (is_other dependent m.package.pkg) (list_any (bytes_eq (name_of m)) named) (meets_one dependent.depopts m.package.pkg) (is_with m.package.pkg.name || meets_one dependent.depopts m.package.pkg) (split m))
     (λ m. right_part (is_other dependent m.package.pkg) (list_any (bytes_eq (name_of m)) named) (meets_one dependent.depopts m.package.pkg) (is_with m.package.pkg.name || meets_one dependent.depopts m.package.pkg) (split m))
 
-pub edges_are : (members : List Member) (dependent : Package) (named seen : List (List ℕ)) (none one all out result : List ℕ) → named ≡ names_to_run dependent.items → seen ≡ named → none ≡ []
-    → Gathers members (is_named_by dependent seen) none one → Gathers members (is_wished_by dependent dependent.depopts) one all → IsInOrder all out → result ≡ out → result ≡ edge_places dependent members
-edges_are members dependent named seen none one all out result are same empty first second order is =
+pub edges_are : (members : List Member) (dependent : Package) (none one all out result : List ℕ) → none ≡ []
+    → Gathers members (is_named_by dependent (names_to_run dependent.items)) none one → Gathers members (is_wished_by dependent dependent.depopts) one all → IsInOrder all out
+    → result ≡ out → result ≡ edge_places dependent members
+edges_are members dependent none one all out result empty first second order is =
     is ∙ gathered members (λ (m : Member). is_edge dependent m.package.pkg) none all out empty
-    (both_parts members dependent seen (is_run_with dependent.items) none one all (λ name. ap (list_any (bytes_eq name)) (same ∙ are) ∙ run_as dependent.items name) first second) order
+    (both_parts members dependent (names_to_run dependent.items) (is_run_with dependent.items) none one all (run_as dependent.items) first second) order
 
-pub needs_are_all : (members : List Member) (dependent : Package) (named seen : List (List ℕ)) (none one all out result : List ℕ) → named ≡ names_to_build dependent.items → seen ≡ named → none ≡ []
-    → Gathers members (is_named_by dependent seen) none one → Gathers members (is_wished_by dependent dependent.depopts) one all → IsInOrder all out → result ≡ out → result ≡ need_places dependent members
-needs_are_all members dependent named seen none one all out result are same empty first second order is =
+pub needs_are_all : (members : List Member) (dependent : Package) (none one all out result : List ℕ) → none ≡ []
+    → Gathers members (is_named_by dependent (names_to_build dependent.items)) none one → Gathers members (is_wished_by dependent dependent.depopts) one all → IsInOrder all out
+    → result ≡ out → result ≡ need_places dependent members
+needs_are_all members dependent none one all out result empty first second order is =
     is ∙ gathered members (λ (m : Member). is_need dependent m.package.pkg) none all out empty
-    (both_parts members dependent seen (is_built_with dependent.items) none one all (λ name. ap (list_any (bytes_eq name)) (same ∙ are) ∙ built_as dependent.items name) first second) order
+    (both_parts members dependent (names_to_build dependent.items) (is_built_with dependent.items) none one all (built_as dependent.items) first second) order
+
+-- ---- formulas
+
+-- a formula that is one package keeps its name
+kept_at : (layer : Reduced-F Reduced) → kept_names (roll-Reduced layer) ≡ layer_kept (map-Reduced Reduced (List (List ℕ)) kept_names layer)
+kept_at = fold-roll-Reduced (List (List ℕ)) layer_kept
+
+pub keeps_one : (formula : Reduced) (name : List ℕ) → atom_name formula ≡ Some name → names formula ≡ name ∷ []
+keeps_one formula name is = ap names (sym (roll-out-Reduced formula)) ∙ by (out-Reduced formula) name is
+  where
+    by : (layer : Reduced-F Reduced) (name : List ℕ) → layer_name layer ≡ Some name → names (roll-Reduced layer) ≡ name ∷ []
+    by Reduced-F.Dropped name is = absurd cc
+    by (Reduced-F.And parts) name is = absurd cc
+    by (Reduced-F.Or parts) name is = absurd cc
+    by (Reduced-F.Atom one test) name is = ap in_byte_order (kept_at (Reduced-F.Atom one test)) ∙ ap (λ n. n ∷ []) (let e : one ≡ name = cc in e)
+
+pub one_gathered : (members : List Member) (dependent : Package) (formula : Reduced) (name : List ℕ) (before now : List ℕ) (result : Result Unit OutOfMemory)
+    → atom_name formula ≡ Some name → OnOk result (Gathers members (is_named_by dependent (name ∷ [])) before now)
+    → OnOk result (Gathers members (is_named_by dependent (names formula)) before now)
+one_gathered members dependent formula name before now result is noted =
+    let P : List (List ℕ) → Type 0 = λ all. OnOk result (Gathers members (is_named_by dependent all) before now) in
+    subst P (sym (keeps_one formula name is)) noted
+
+pub all_gathered : (members : List Member) (dependent : Package) (all seen : List (List ℕ)) (before now : List ℕ) (result : Result Unit OutOfMemory)
+    → seen ≡ all → OnOk result (Gathers members (is_named_by dependent seen) before now) → OnOk result (Gathers members (is_named_by dependent all) before now)
+all_gathered members dependent all seen before now result is noted =
+    let P : List (List ℕ) → Type 0 = λ names. OnOk result (Gathers members (is_named_by dependent names) before now) in subst P is noted
+
+pub two_gathered : (members : List Member) (dependent : Package) (one other : List (List ℕ)) (before now next : List ℕ) (result : Result Unit OutOfMemory)
+    → Gathers members (is_named_by dependent one) before now → OnOk result (Gathers members (is_named_by dependent other) now next)
+    → OnOk result (Gathers members (is_named_by dependent (one ++ other)) before next)
+two_gathered members dependent one other before now next (Ok done) first second = names_join members dependent one other (one ++ other) before now next first second refl
+two_gathered members dependent one other before now next (Err fault) first second = tt
+
+-- the names of one more need
+each_more : (f : Need → List (List ℕ)) (needs : List Need) (i : ℕ) (d : Need) → i < length needs → flat_map f (take (i + 1) needs) ≡ flat_map f (take i needs) ++ f (get_or needs i d)
+each_more f needs i d below =
+    ap (flat_map f) (take_more needs i d below) ∙ flat_map-append f (take i needs) (get_or needs i d ∷ [])
+    ∙ ap (λ l. flat_map f (take i needs) ++ l) (append-nil (f (get_or needs i d)))
+
+pub need_noted : (members : List Member) (dependent : Package) (f : Need → List (List ℕ)) (all seen : List Need) (i : ℕ) (x : Need) (before now next : List ℕ) → seen ≡ all
+    → Gathers members (is_named_by dependent (flat_map f (take i all))) before now → i < length seen → x ≡ get_or seen i x → Gathers members (is_named_by dependent (f x)) now next
+    → Gathers members (is_named_by dependent (flat_map f (take (i + 1) all))) before next
+need_noted members dependent f all seen i x before now next same so_far below is one =
+    let below_all : i < length all = omega (arith, below, ap length same) in
+    let here : x ≡ get_or all i x = is ∙ ap (λ l. get_or l i x) same in
+    names_join members dependent (flat_map f (take i all)) (f x) (flat_map f (take (i + 1) all)) before now next so_far one
+    (each_more f all i x below_all ∙ ap (λ y. flat_map f (take i all) ++ f y) (sym here))
 
 -- one more by what the code was handed
 pub name_noted : (members : List Member) (dependent : Package) (all : List (List ℕ)) (i : ℕ) (x : List ℕ) (before now next : List ℕ)

@@ -12,3 +12,4 @@ pub mod Looking
 pub mod GraphLaws
 pub mod PlanLaws
 pub mod Fitness
+pub mod Gathering

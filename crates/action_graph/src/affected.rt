@@ -161,7 +161,8 @@ impl<'a> Change<'a> {
     {
         let rows = self.dependents(alloc)?;
         let starts = self.touched(alloc)?;
-        reach(alloc, &rows, rows.len(), starts.as_slice())
+        let found = reach(alloc, &rows, rows.len(), starts.as_slice())?;
+        found.marks(alloc)
     }
 }
 

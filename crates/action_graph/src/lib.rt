@@ -2,6 +2,7 @@
 #![tactic(auto)]
 
 mod affected;
+mod gathered;
 mod installs;
 mod laws;
 mod links;

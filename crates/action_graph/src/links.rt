@@ -1,10 +1,11 @@
 // To which members of a set a package leads, by their places. What it names is looked up, so that no other member is asked.
-ghost use Rattle.std.specs.Prelude.{◌≡◌, ◌∷◌, [], ◌<◌, ◌^◌, length, map, bytes_eq, IfOk, OnOk};
+ghost use Rattle.std.specs.Prelude.{◌≡◌, ◌∷◌, ◌++◌, [], ◌<◌, ◌^◌, length, map, bytes_eq, IfOk, OnOk};
 ghost use Rattle.std.specs.List.{IsDistinct};
 ghost use Rattle.std.specs.Option.{option_copied};
+ghost use Rattle.opam_filter.specs.Sets as kept;
 ghost use Rattle.action_graph.specs.Leaving.{name_of};
 ghost use Rattle.action_graph.specs.Links as links;
-ghost use Rattle.action_graph.specs.Looking.{Gathers, IsInOrder, is_named_by, is_wished_by, names_to_build, names_to_run};
+ghost use Rattle.action_graph.specs.Looking.{Gathers, IsInOrder, is_named_by, is_wished_by};
 ghost use Rattle.action_graph.specs.Looking as looking;
 
 use crate::lookup::Lookup;
@@ -12,32 +13,6 @@ use opam_filter::{Reduced, meets, names};
 use opam_names::{Items, Name, OutOfMemory};
 use opam_package::{Member, Need, Package};
 use std::alloc::Global;
-
-// The names that the formulas keep when `build` and `post` are false.
-fn names_to_run(alloc: Global, needs: &[Need]) -> Result<Vec<Name>, OutOfMemory>
-    ensures { IfOk result (λ all. all.items ≡ looking.names_to_run needs.now) }
-{
-    let mut all = Vec::new(alloc);
-    for need in needs {
-        let mut kept = names(alloc, &need.runtime)?.into_vec();
-        all.append(&mut kept)?;
-    }
-    Ok(all)
-}
-
-// The same, and those that they keep when `build` is true.
-fn names_to_build(alloc: Global, needs: &[Need]) -> Result<Vec<Name>, OutOfMemory>
-    ensures { IfOk result (λ all. all.items ≡ looking.names_to_build needs.now) }
-{
-    let mut all = Vec::new(alloc);
-    for need in needs {
-        let mut kept = names(alloc, &need.runtime)?.into_vec();
-        let mut built = names(alloc, &need.building)?.into_vec();
-        all.append(&mut kept)?;
-        all.append(&mut built)?;
-    }
-    Ok(all)
-}
 
 fn atom_name(atom: &Reduced) -> Option<&Name>
     ensures { option_copied result ≡ looking.atom_name atom.now }
@@ -91,6 +66,92 @@ fn note_names<L: Lookup>(
     Ok(())
 }
 
+// Adds the places of the members whose names a formula keeps, where they are other ones. Most formulas are one package, whose
+// name is looked up as it stands there.
+fn note_formula<L: Lookup>(
+    alloc: Global,
+    members: &[Member],
+    lookup: &L,
+    dependent: &Package,
+    formula: &Reduced,
+    places: &mut Vec<u32>,
+) -> Result<(), OutOfMemory>
+    requires small { length members.now < 2 ^ 32 }
+    requires fit { L.fit lookup.now members.now }
+    requires differ { IsDistinct bytes_eq (map name_of members.now) }
+    ensures { OnOk result (Gathers members.now
+        (is_named_by dependent.now (kept.names formula.now)) places.old.items places.new.items) }
+{
+    match atom_name(formula) {
+        Some(name) => note_name(members, lookup, dependent, name, places),
+        None => {
+            let kept = names(alloc, formula)?;
+            note_names(members, lookup, dependent, kept.as_slice(), places)
+        }
+    }
+}
+
+// The same of the formulas as they are when `build` and `post` are false.
+fn note_running<L: Lookup>(
+    alloc: Global,
+    members: &[Member],
+    lookup: &L,
+    dependent: &Package,
+    places: &mut Vec<u32>,
+) -> Result<(), OutOfMemory>
+    requires small { length members.now < 2 ^ 32 }
+    requires fit { L.fit lookup.now members.now }
+    requires differ { IsDistinct bytes_eq (map name_of members.now) }
+    ensures { OnOk result (Gathers members.now
+        (is_named_by dependent.now (looking.names_to_run dependent.now.items))
+        places.old.items places.new.items) }
+{
+    for need in dependent.items.as_slice() {
+        note_formula(alloc, members, lookup, dependent, &need.runtime, places)?;
+    }
+    Ok(())
+}
+
+fn note_need<L: Lookup>(
+    alloc: Global,
+    members: &[Member],
+    lookup: &L,
+    dependent: &Package,
+    need: &Need,
+    places: &mut Vec<u32>,
+) -> Result<(), OutOfMemory>
+    requires small { length members.now < 2 ^ 32 }
+    requires fit { L.fit lookup.now members.now }
+    requires differ { IsDistinct bytes_eq (map name_of members.now) }
+    ensures { OnOk result (Gathers members.now
+        (is_named_by dependent.now (kept.names need.now.runtime ++ kept.names need.now.building))
+        places.old.items places.new.items) }
+{
+    note_formula(alloc, members, lookup, dependent, &need.runtime, places)?;
+    note_formula(alloc, members, lookup, dependent, &need.building, places)
+}
+
+// The same, and as they are when `build` is true.
+fn note_building<L: Lookup>(
+    alloc: Global,
+    members: &[Member],
+    lookup: &L,
+    dependent: &Package,
+    places: &mut Vec<u32>,
+) -> Result<(), OutOfMemory>
+    requires small { length members.now < 2 ^ 32 }
+    requires fit { L.fit lookup.now members.now }
+    requires differ { IsDistinct bytes_eq (map name_of members.now) }
+    ensures { OnOk result (Gathers members.now
+        (is_named_by dependent.now (looking.names_to_build dependent.now.items))
+        places.old.items places.new.items) }
+{
+    for need in dependent.items.as_slice() {
+        note_need(alloc, members, lookup, dependent, need, places)?;
+    }
+    Ok(())
+}
+
 // Adds the place of the member that meets an atom, where that is another one.
 fn note_wish<L: Lookup>(
     members: &[Member],
@@ -138,7 +199,8 @@ fn note_wishes<L: Lookup>(
     Ok(())
 }
 
-fn put_in_order(places: &mut Vec<u32>)
+/// Puts places into their order, each once.
+pub(crate) fn put_in_order(places: &mut Vec<u32>)
     ensures { IsInOrder places.old.items places.new.items }
 {
     places.sort_unstable();
@@ -157,9 +219,8 @@ pub(crate) fn edge_places<L: Lookup>(
     requires differ { IsDistinct bytes_eq (map name_of members.now) }
     ensures { IfOk result (λ places. places ≡ links.edge_places dependent.now members.now) }
 {
-    let named = names_to_run(alloc, dependent.items.as_slice())?;
     let mut places = Vec::new(alloc);
-    note_names(members, lookup, dependent, named.as_slice(), &mut places)?;
+    note_running(alloc, members, lookup, dependent, &mut places)?;
     note_wishes(members, lookup, dependent, &mut places)?;
     put_in_order(&mut places);
     Ok(Items::from_vec(places))
@@ -177,9 +238,8 @@ pub(crate) fn need_places<L: Lookup>(
     requires differ { IsDistinct bytes_eq (map name_of members.now) }
     ensures { IfOk result (λ places. places ≡ links.need_places dependent.now members.now) }
 {
-    let named = names_to_build(alloc, dependent.items.as_slice())?;
     let mut places = Vec::new(alloc);
-    note_names(members, lookup, dependent, named.as_slice(), &mut places)?;
+    note_building(alloc, members, lookup, dependent, &mut places)?;
     note_wishes(members, lookup, dependent, &mut places)?;
     put_in_order(&mut places);
     Ok(Items::from_vec(places))

@@ -1,7 +1,6 @@
 // Places that are found one after another, each once.
-ghost use Rattle.std.specs.Prelude.{◌≡◌, ℕ, ◌<◌, ◌≤◌, ◌^◌, [], false, length, replicate, slice_index, IfOk, OnOk, EachIndex};
-ghost use Rattle.action_graph.specs.Found.{Adds, Coheres, IsPut, marked};
-ghost use Rattle.action_graph.specs.Places.{AreBelow};
+ghost use Rattle.std.specs.Prelude.{◌≡◌, ◌<◌, [], false, length, replicate, IfOk, OnOk};
+ghost use Rattle.action_graph.specs.Found.{IsPut, marked};
 
 use opam_names::{Items, OutOfMemory};
 use std::alloc::Global;
@@ -52,19 +51,6 @@ impl Found {
         }
         self.places.push(place)?;
         self.marks.set(place as usize, true);
-        Ok(())
-    }
-
-    // Those that were not found are added at the end.
-    pub(crate) fn add(&mut self, places: &[u32]) -> Result<(), OutOfMemory>
-        requires within { AreBelow places.now (length self.old.marks) }
-        requires coheres { Coheres self.old.marks self.old.places }
-        ensures { OnOk result (Adds self.old.marks self.old.places places.now
-            self.new.marks self.new.places) }
-    {
-        for place in places {
-            self.put(*place)?;
-        }
         Ok(())
     }
 }

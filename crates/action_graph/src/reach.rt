@@ -1,10 +1,11 @@
 // The least set that has some starts, and with each place those to which steps lead from there.
 ghost use Rattle.std.specs.Prelude.{◌≡◌, ℕ, ◌<◌, ◌≤◌, length, slice_index, IfOk, EachIndex};
-ghost use Rattle.action_graph.specs.Found.{Marks};
+ghost use Rattle.action_graph.specs.Found.{Coheres, Marks};
+ghost use Rattle.action_graph.specs.Gathering.{gathered_marks};
 ghost use Rattle.action_graph.specs.Places.{IsIn};
 ghost use Rattle.action_graph.specs.Reach.{Reached};
 
-use crate::marks::{Found, none_found};
+use crate::gathered::{Gathered, none_gathered};
 use opam_names::{Items, OutOfMemory};
 use std::alloc::Global;
 
@@ -27,20 +28,23 @@ pub(crate) trait Steps {
             EachIndex places (λ i. slice_index places i < count self.now)) };
 }
 
-// Marks what is reached, in one walk over a list that grows.
+// Gathers what is reached, in one walk over a list that grows. It takes as long as there is to be found.
 pub(crate) fn reach<S: Steps>(
     alloc: Global,
     steps: &S,
     count: usize,
     starts: &[u32],
-) -> Result<Items<bool>, OutOfMemory>
+) -> Result<Gathered, OutOfMemory>
     requires fit { S.fit steps.now }
     requires counted { count ≡ S.count steps.now }
     requires within { EachIndex starts.now (λ i. slice_index starts.now i < count) }
-    ensures { IfOk result (λ marks. Marks
-        (Reached (IsIn starts.now) (λ from. IsIn (S.leads steps.now from))) count marks) }
+    ensures count { IfOk result (λ found. found.count ≡ count) }
+    ensures marks { IfOk result (λ found. Marks
+        (Reached (IsIn starts.now) (λ from. IsIn (S.leads steps.now from))) count
+        (gathered_marks found)) }
+    ensures places { IfOk result (λ found. Coheres (gathered_marks found) found.places) }
 {
-    let mut found = none_found(alloc, count)?;
+    let mut found = none_gathered(alloc, count);
     found.add(starts)?;
     let mut done = 0;
     while done < found.places.len() {
@@ -48,6 +52,5 @@ pub(crate) fn reach<S: Steps>(
         found.add(next.as_slice())?;
         done += 1;
     }
-    let Found { marks, places: _ } = found;
-    Ok(marks)
+    Ok(found)
 }

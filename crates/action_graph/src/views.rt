@@ -7,7 +7,6 @@ ghost use Rattle.action_graph.specs.Places.{at_places};
 ghost use Rattle.action_graph.specs.Views.{IsView};
 
 use crate::links::{edge_places, need_places};
-use crate::listing::marked_places;
 use crate::lookup::InOrder;
 use crate::reach::{Steps, reach};
 use opam_names::{Items, OutOfMemory, Pkg};
@@ -54,8 +53,8 @@ pub fn view_of(alloc: Global, target: &Target, member: u32) -> Result<View, OutO
 {
     let members = target.members.as_slice();
     let starts = need_places(alloc, &members[member as usize].package, members, &InOrder)?;
-    let marks = reach(alloc, &target.members, members.len(), starts.as_slice())?;
-    let places = marked_places(alloc, marks.as_slice())?;
+    let found = reach(alloc, &target.members, members.len(), starts.as_slice())?;
+    let places = found.in_order();
     Ok(View {
         members: pkgs_at(alloc, members, places.as_slice())?,
     })
