@@ -1,8 +1,7 @@
 // Calls of `read_file`, of a file's `field`, and of `text_of`. A file is shown by its items, each with its place, and a value as `print_file` takes it: after its
-// parts, and with the place where it stands, as `x @3-4`. Of faults only a doubled name is told with its place.
-use crate::spans::show_doubled;
+// parts, and with the place where it stands, as `x @3-4`. A fault is told with its place, as `Stray 3`. `respelled` reads a text and prints its file.
 use indexmap::IndexMap;
-use opam_syntax::read_file;
+use opam_syntax::{print_file, read_file};
 use row_script::fault::Fault;
 use row_script::lexer::Word;
 use row_script::script::Call;
@@ -16,6 +15,7 @@ pub fn answer(alloc: Global, call: &Call) -> Result<String, Fault> {
     let words = call.words.as_slice();
     match call.name.as_str() {
         "read_file" => read(alloc, words),
+        "respelled" => respelled(alloc, words),
         "field" => field(alloc, words),
         "text_of" => show_text(alloc, words),
         _ => Err(Fault::Unknown),
@@ -32,9 +32,32 @@ fn read(alloc: Global, words: &[Word]) -> Result<String, Fault> {
     }
     match read_file(alloc, bytes) {
         Ok(file) => show_file(alloc, &file),
-        Err(SyntaxFault::Doubled { at }) => show_doubled(alloc, at),
-        Err(SyntaxFault::Memory) => Err(Fault::Memory),
-        Err(_) => plain(alloc, "no file"),
+        Err(fault) => show_fault(alloc, fault),
+    }
+}
+
+// The canonical spelling of the file of a text.
+fn respelled(alloc: Global, words: &[Word]) -> Result<String, Fault> {
+    let [text] = words else {
+        return Err(Fault::Unknown);
+    };
+    let bytes = text.bytes.as_slice();
+    if bytes.len() > FILE_LIMIT {
+        return Err(Fault::Line("the text is too long"));
+    }
+    match read_file(alloc, bytes) {
+        Ok(file) => quoted(alloc, print_file(alloc, &file)?.as_slice()),
+        Err(fault) => show_fault(alloc, fault),
+    }
+}
+
+fn show_fault(alloc: Global, fault: SyntaxFault) -> Result<String, Fault> {
+    match fault {
+        SyntaxFault::Ended { at } => Ok(format!(in alloc; "Ended {at}")?),
+        SyntaxFault::Stray { at } => Ok(format!(in alloc; "Stray {at}")?),
+        SyntaxFault::Deep { at } => Ok(format!(in alloc; "Deep {at}")?),
+        SyntaxFault::Doubled { at } => Ok(format!(in alloc; "Doubled {at}")?),
+        SyntaxFault::Memory => Err(Fault::Memory),
     }
 }
 
@@ -50,7 +73,7 @@ fn field(alloc: Global, words: &[Word]) -> Result<String, Fault> {
     }
     match read_file(alloc, bytes) {
         Ok(file) => show_field(alloc, &file, name),
-        Err(_) => plain(alloc, "no file"),
+        Err(fault) => show_fault(alloc, fault),
     }
 }
 
