@@ -8,7 +8,7 @@ use Rattle.std.specs.declared.cmp.Ordering.TheVariants.{Less}
 use Rattle.std.proofs.lemmas.Bool.{false≢true}
 use Rattle.std.proofs.lemmas.Slice.Eq.{bytes_eq-Decides}
 use Rattle.std.proofs.lemmas.List.{map-append}
-use Rattle.opam_names.specs.ByteOrders.{RisesBy, byte_order, has_key, precedes, put_by}
+use Rattle.opam_names.specs.ByteOrders.{RisesBy, byte_order, precedes, put_by}
 use Rattle.opam_names.specs.declared.packages.Pkg.{Pkg}
 use Rattle.opam_names.proofs.ByteOrders.{apart_of}
 use Rattle.owner_map.specs.Owning.{is_of_another, is_same_pkg, owned_by, path_of}
@@ -24,17 +24,17 @@ use Rattle.journal_text.specs.declared.record.Rec.{Rec}
 use Rattle.journal_text.specs.declared.record.Rec.TheVariants.{Begin, End, Install, PutBack, Remove}
 use Rattle.journal_text.specs.declared.slot.Owned.{Owned}
 use Rattle.journal_text.specs.declared.slot.Snapshot.{Snapshot}
-use Rattle.switch_journal.specs.Applying.{are_few, are_few_paths, are_kept_right, are_removed, begun, can_come, ended, entries_of, has_name, has_pkg, installed, is_another, is_before_all_back, is_kept_removal, is_named, is_next, is_of, is_put_back, is_same_entry, next_removal, only_if, own, put_back, removed, with_done, with_package, without_package}
+use Rattle.switch_journal.specs.Applying.{are_removed, begun, can_come, ended, has_name, installed, is_another, is_before_all_back, is_kept_removal, is_named, is_of, is_put_back, is_same_entry, only_if, own, put_back, removed, with_done, with_package, without_package}
 use Rattle.switch_journal.specs.Contents.{Contents, entry_of}
 use Rattle.switch_journal.specs.Formed.{AreRootsFormed, IsFormed, IsFormedIn, IsInstalledFormed}
 use Rattle.switch_journal.specs.Journal.{said_by}
 use Rattle.switch_journal.specs.Places.{record_path}
-use Rattle.switch_journal.specs.Reading.{after_record, empty_contents, name_of_standing, owned_with, slot_contents, standing_of, with_all_roots}
+use Rattle.switch_journal.specs.Reading.{after_record, empty_contents, name_of_standing, owned_with, slot_contents, standing_of}
 use Rattle.switch_journal.specs.declared.request.Done.{Done}
 use Rattle.switch_journal.specs.declared.request.Done.TheVariants as done
 use Rattle.switch_journal.specs.declared.request.Open.{Open}
 use Rattle.switch_journal.specs.declared.standing.Standing.{Standing}
-use Rattle.switch_journal.proofs.Applied.{IsSaid, begun_is, ended_is, installed_is, old_installed_is, old_removed_is, put_back_is, removed_is, with_request, without_request}
+use Rattle.switch_journal.proofs.Applied.{begun_is, ended_is, installed_is, old_installed_is, old_removed_is, put_back_is, removed_is}
 
 or_left : (a b : Bool) → (a || b) ≡ false → a ≡ false
 or_left true b is = absurd (false≢true (sym is))

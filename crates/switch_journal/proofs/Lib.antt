@@ -18,6 +18,8 @@ pub mod Outside
 pub mod Read
 pub mod ReadInside
 pub mod RedoStops
+pub mod SlotOwners
+pub mod SlotPieced
 pub mod SlotStops
 pub mod Slotted
 pub mod Slotting

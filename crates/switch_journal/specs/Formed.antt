@@ -1,5 +1,5 @@
 -- What holds of what a journal says, whatever the disk tells: names stand once, and owners and roots are installed. This project's own.
-use Rattle.std.specs.Prelude.{◌≡◌, List, ℕ, Bool, true, false, map, bytes_eq, Result, IfOk, IfSome}
+use Rattle.std.specs.Prelude.{◌≡◌, List, ℕ, Bool, true, false, map, bytes_eq, IfSome}
 use Rattle.std.specs.List.{IsDistinct, list_all, list_any}
 use Rattle.std.specs.declared.option.Option.{Option}
 use Rattle.std.specs.declared.option.Option.TheVariants.{None}

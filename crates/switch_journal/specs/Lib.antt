@@ -15,3 +15,5 @@ pub mod Found
 pub mod Walks
 pub mod Opening
 pub mod Formed
+pub mod SlotPieces
+pub mod Pieced

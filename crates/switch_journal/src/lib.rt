@@ -16,6 +16,8 @@ mod opening;
 mod places;
 mod request;
 mod slot_kept;
+mod slot_owners;
+mod slot_pieces;
 mod slots;
 mod snapshots;
 mod standing;
@@ -34,5 +36,6 @@ pub use laws::{
 };
 pub use places::{gate_path_of, record_path_of, slot_gate_of, slot_path_of};
 pub use request::{Done, ENTRY_LIMIT, OWNED_LIMIT, Open, TEXT_LIMIT};
+pub use slot_pieces::Slot;
 pub use slots::{ReadySlot, make_slot, write_slot};
 pub use standing::Standing;

@@ -1,24 +1,38 @@
 // The writing of a slot, in the words of what the journal says.
-ghost use Rattle.std.specs.Prelude.{◌≡◌, ◌≤◌, ◌-◌, length, IfOk, OnOk};
+ghost use Rattle.std.specs.Prelude.{◌≡◌, ◌≤◌, ◌-◌, ◌^◌, IfOk, OnOk};
 ghost use Rattle.std.specs.declared.option.Option.TheVariants.{Some};
 ghost use Rattle.crash_disk.specs.Disks.{Tree};
 ghost use Rattle.crash_disk.specs.Effects.{Fails, Touches, at_rest};
 ghost use Rattle.crash_disk.specs.Stops.{IsSameBut, StopsLeave};
-ghost use Rattle.journal_text.specs.Slots.{IsSlotInOrder, slot_bytes};
+ghost use Rattle.journal_text.specs.declared.slot.Snapshot.{Snapshot};
 ghost use Rattle.switch_journal.specs.Contents.{Contents};
 ghost use Rattle.switch_journal.specs.Journal.{StandsFor};
 ghost use Rattle.switch_journal.specs.Slots.{paths_of_slot};
-ghost use Rattle.switch_journal.specs.Snapshots.{CanWriteSlot, ComesToSame, IsSlotReady, contents_by, place_for, slot_for, with_slot};
+ghost use Rattle.switch_journal.specs.Snapshots.{CanWriteSlot, ComesToSame, contents_by, place_for, slot_for, with_slot};
 
 use crate::journal::Journal;
 use crate::slots::{ReadySlot, make_slot, write_slot};
 use crash_disk::Disk;
-use journal_text::{SLOT_LIMIT, Snapshot, encode_slot};
 use opam_names::{Items, OutOfMemory};
 use outside_io::Failed;
 use std::alloc::Global;
 
 impl Journal {
+    // The same numbers once more.
+    pub(crate) fn same(&self) -> Journal
+        ensures is { result ≡ self.now }
+        ensures few { self.now.next ≤ 2 ^ 63 }
+    {
+        Journal {
+            counts: self.counts,
+            zero_is_open: self.zero_is_open,
+            one_is_open: self.one_is_open,
+            first: self.first,
+            next: self.next,
+            old: self.old,
+        }
+    }
+
     // The slot that does not count, and slot 0 where neither does.
     fn place_for_slot(&self) -> bool
         ensures { result ≡ place_for self.now }
@@ -30,7 +44,7 @@ impl Journal {
     }
 
     // Makes ready a slot with this text, in the place that is free.
-    fn slot_with(&self, alloc: Global, text: Items<u8>) -> Result<ReadySlot, OutOfMemory>
+    pub(crate) fn slot_with(&self, alloc: Global, text: Items<u8>) -> Result<ReadySlot, OutOfMemory>
         ensures { IfOk result (λ ready. ready ≡ slot_for self.now text) }
     {
         let place = self.place_for_slot();
@@ -55,17 +69,6 @@ impl Journal {
         ensures { result ≡ self.now.next - 1 }
     {
         self.next.saturating_sub(1)
-    }
-
-    /// Makes a slot ready to be written. Its parts stand in order, and it is not too long.
-    pub fn ready_slot(&self, alloc: Global, snapshot: &Snapshot) -> Result<ReadySlot, OutOfMemory>
-        requires ordered { IsSlotInOrder snapshot.now }
-        requires short { length (slot_bytes snapshot.now) ≤ SLOT_LIMIT }
-        requires number { snapshot.now.number ≡ self.now.next - 1 }
-        ensures { IfOk result (IsSlotReady self.now snapshot.now) }
-    {
-        let text = encode_slot(alloc, snapshot)?;
-        self.slot_with(alloc, text)
     }
 
     /// Writes a slot that was made ready for this journal. After a failure the journal has to be opened again.
