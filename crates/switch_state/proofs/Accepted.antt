@@ -18,7 +18,7 @@ use Rattle.syntax_trees.specs.Laws.{OneTreeForBytes}
 use Rattle.syntax_trees.specs.Trees.{IsTextOf, items_of}
 use Rattle.syntax_trees.proofs.NowhereDeep.{faultless}
 use Rattle.syntax_trees.specs.declared.file.File.{File}
-use Rattle.switch_state.specs.OpamTexts.{IsFoundKept, IsIfAccepted, IsKeptBy, IsKeptIn, IsOpamText, SaysAccepted}
+use Rattle.switch_state.specs.OpamTexts.{IsFoundKept, IsIfAccepted, IsKeptBy, IsKeptIn, IsOpamText, IsSomeKept, SaysAccepted}
 
 -- ---- opam texts
 
@@ -55,6 +55,11 @@ found_kept one pkg text (Install other opam files) found spelled by = subst (IsF
 found_kept one pkg text (PutBack other opam files) found spelled by = subst (IsFoundKept pkg (Some text)) (sym by) (λ kept is. absurd (let e = not_kept one pkg text (PutBack other opam files) kept spelled is in cc))
 found_kept one pkg text (Begin roots target removals) found spelled by = subst (IsFoundKept pkg (Some text)) (sym by) (λ kept is. absurd (let e = not_kept one pkg text (Begin roots target removals) kept spelled is in cc))
 found_kept one pkg text End found spelled by = subst (IsFoundKept pkg (Some text)) (sym by) (λ kept is. absurd (let e = not_kept one pkg text End kept spelled is in cc))
+
+-- what is found in a file was kept, whatever else the disk tells
+pub some_kept : (pkg : Pkg) (text : List ℕ) (found : Option KeptFiles) → IsFoundKept pkg (Some text) found → IfSome found (IsSomeKept pkg)
+some_kept pkg text None none = tt
+some_kept pkg text (Some kept) is = (text, is)
 
 -- ---- answers
 

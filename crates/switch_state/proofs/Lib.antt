@@ -13,7 +13,6 @@ pub mod Removing
 pub mod Accepted
 pub mod Inside
 pub mod Beginning
-pub mod Slotted
 pub mod Closings
 pub mod Slotting
 pub mod Told

@@ -1,42 +1,38 @@
--- What a well-formed state has is in order as a slot, and is not too long.
-use Rattle.std.proofs.Common.{◌≡◌, ◌∙◌, ℕ, ◌+◌, ◌*◌, ◌≤◌, ◌<◌, List, [], ◌∷◌, ◌++◌, length, map, Bool, true, false, refl, sym, ap, subst, arith, Option, Some, None}
-use Rattle.std.specs.Prelude.{◌&&◌, ◌||◌, bytes_eq, codes, nat_le, if◌then◌else◌}
-use Rattle.std.specs.Int.{to_be_bytes, w32, w64}
-use Rattle.std.specs.List.{AllByRecursion, IsDistinct, filter_map, flat_map, list_all, list_any}
+-- What a well-formed state has can be given to a slot, and tells the state.
+use Rattle.std.proofs.Common.{◌≡◌, ◌∙◌, ℕ, suc, zero, ◌+◌, ◌≤◌, ◌<◌, ◌^◌, List, [], ◌∷◌, ◌++◌, length, map, take, get_or, Bool, true, false, refl, sym, ap, subst, arith, Option, Some, None}
+use Rattle.std.specs.Prelude.{◌&&◌, ◌||◌, IfOk, bytes_eq, nat_le}
+use Rattle.std.specs.declared.result.Result.{Result}
+use Rattle.std.specs.declared.result.Result.TheVariants.{Err, Ok}
+use Rattle.std.specs.List.{IsDistinct, list_all, list_any}
 use Rattle.std.specs.Option.{option_map}
-use Rattle.std.specs.List.Sorted.{IsStrictlySortedBy}
-use Rattle.std.specs.declared.cmp.Ordering.TheVariants.{Less}
 use Rattle.std.proofs.lemmas.Bool.{false≢true}
 use Rattle.std.proofs.lemmas.Bool.Decides.{nat_tests}
-use Rattle.std.proofs.lemmas.List.{length-append, length-map}
+use Rattle.std.proofs.lemmas.List.{append-nil, append_assoc, length-append, length-map, map-append, take_more}
 use Rattle.std.proofs.lemmas.Slice.Eq.{bytes_eq-Decides}
-use Rattle.path_order.proofs.Fronts.{not_itself}
-use Rattle.opam_names.specs.ByteOrders.{RisesBy, byte_order}
 use Rattle.opam_package.specs.declared.package.Member.{Member}
-use Rattle.owner_map.specs.Owning.{path_of}
-use Rattle.owner_map.specs.Owning as owning
-use Rattle.journal_text.specs.Parts.{AreFree, entry_bytes, own_name}
-use Rattle.journal_text.specs.Slots.{IsSlotInOrder, entry_names, has_owner, is_among, lists_bytes, owned_bytes, owned_paths, slot_body, slot_bytes}
-use Rattle.journal_text.specs.Words.{counted, short_text}
+use Rattle.owner_map.specs.Owning.{is_same_pkg}
+use Rattle.owner_map.specs.declared.owned.OwnedPath.{OwnedPath}
+use Rattle.opam_names.specs.declared.packages.Pkg.{Pkg}
+use Rattle.journal_text.specs.Slots.{entry_names, is_among}
 use Rattle.journal_text.specs.declared.record.Entry.{Entry}
-use Rattle.journal_text.specs.declared.slot.Owned.{Owned}
-use Rattle.journal_text.specs.declared.slot.Snapshot.{Snapshot}
-use Rattle.journal_text.specs.declared.slot.TheConstants.{SLOT_LIMIT}
-use Rattle.switch_journal.specs.Applying.{are_few, are_few_paths, entries_of, text_total}
+use Rattle.switch_journal.specs.Applying.{are_few, are_few_paths, entries_of, is_of, text_total}
 use Rattle.switch_journal.specs.Contents as contents
+use Rattle.switch_journal.specs.Contents.{Contents}
 use Rattle.switch_journal.specs.Journal.{Head}
 use Rattle.switch_journal.specs.Places.{slot_path}
-use Rattle.switch_journal.specs.Reading.{is_small, owned_with, standing_of}
-use Rattle.switch_journal.specs.Snapshots.{IsSameSwitch, contents_by, place_for}
-use Rattle.switch_journal.specs.declared.request.TheConstants.{ENTRY_LIMIT, OWNED_LIMIT, TEXT_LIMIT}
+use Rattle.switch_journal.specs.Reading.{is_small, standing_of}
+use Rattle.switch_journal.specs.SlotPieces.{CanFinish, IsSlotGiven, Pieces, begun, contents_given, is_owner_given, with_entry, with_root}
+use Rattle.switch_journal.specs.Snapshots.{IsSameSwitch, IsSlotReady, contents_by, place_for}
+use Rattle.switch_journal.specs.declared.request.TheConstants.{ENTRY_LIMIT, TEXT_LIMIT}
+use Rattle.switch_journal.specs.declared.slots.ReadySlot.{ReadySlot}
 use Rattle.switch_state.specs.Ends.{is_called, is_entry_name}
-use Rattle.switch_state.specs.Sound.{name_of}
-use Rattle.switch_state.specs.State.{Request, SwitchState, contents_in, member_entry, open_of}
-use Rattle.switch_state.specs.Telling.{AreEntriesOf, ArePlaced}
+use Rattle.switch_state.specs.Sound.{member_pkg, name_of}
+use Rattle.switch_state.specs.State.{Now, SwitchState, contents_in, member_entry, open_of}
+use Rattle.switch_state.specs.Telling.{IsSlotOf, pieces_of, with_entries, with_roots}
 use Rattle.switch_state.specs.WellFormed.{IsWellFormed}
 use Rattle.switch_state.proofs.Acting.{entries_said}
 use Rattle.switch_state.proofs.Adding.{same_bytes}
-use Rattle.switch_state.proofs.SoundKept.{and_left, and_right, both_true, bytes_self, is_false}
+use Rattle.switch_state.proofs.SoundKept.{and_left, and_right, is_false}
 
 -- ---- names
 
@@ -59,121 +55,122 @@ all_among : (members : List Member) (roots : List (List ℕ)) → list_all (is_a
 all_among members [] = refl
 all_among members (root ∷ roots) = λ i. among_is members root i && all_among members roots i
 
-called_is : (members : List Member) (name : List ℕ) → is_entry_name members name ≡ list_any (bytes_eq name) (map name_of members)
-called_is [] name = refl
-called_is (m ∷ members) name = ap (λ b. bytes_eq name (name_of m) || b) (called_is members name)
+-- ---- in the loops
 
-all_called : (members : List Member) (roots : List (List ℕ)) → list_all (is_entry_name members) roots ≡ list_all (λ name. list_any (bytes_eq name) (map name_of members)) roots
-all_called members [] = refl
-all_called members (root ∷ roots) = λ i. called_is members root i && all_called members roots i
-
--- ---- no more roots than entries
-
--- the names without the first that is this one
-abbrev taken_by : Bool → List ℕ → List (List ℕ) → List (List ℕ) → List (List ℕ)
-taken_by true x xs rest = xs
-taken_by false x xs rest = x ∷ rest
-
-abbrev taken : List ℕ → List (List ℕ) → List (List ℕ)
-taken name [] = []
-taken name (x ∷ xs) = taken_by (bytes_eq name x) x xs (taken name xs)
-
-taken_len : (name : List ℕ) (xs : List (List ℕ)) → list_any (bytes_eq name) xs ≡ true → length (taken name xs) + 1 ≡ length xs
-taken_len name [] is = absurd (false≢true is)
-taken_len name (x ∷ xs) is = by (bytes_eq name x) is (taken_len name xs)
+-- a member more is given
+pub entry_step : (members : List Member) (i : ℕ) (m : Member) (first now next : Pieces) → i < length members → m ≡ get_or members i m → now ≡ with_entries (map member_entry (take i members)) first → next ≡ with_entry m.package.pkg m.opam now → next ≡ with_entries (map member_entry (take (i + 1) members)) first
+entry_step members i m first now next within is so_far new =
+    new
+    ∙ ap (with_entry m.package.pkg m.opam) so_far
+    ∙ (λ j. record { head = first.head; asked = first.asked; entries = entries j; roots = first.roots })
   where
-    by : (b : Bool) → (b || list_any (bytes_eq name) xs) ≡ true → (list_any (bytes_eq name) xs ≡ true → length (taken name xs) + 1 ≡ length xs) → length (taken_by b x xs (taken name xs)) + 1 ≡ length (x ∷ xs)
-    by true is later = omega arith
-    by false is later = let rest = later is in omega (arith, rest)
+    more : take (i + 1) members ≡ take i members ++ m ∷ []
+    more = take_more members i m within ∙ (λ j. take i members ++ sym is j ∷ [])
 
-taken_other : (name other : List ℕ) (xs : List (List ℕ)) → bytes_eq other name ≡ false → list_any (bytes_eq other) xs ≡ true → list_any (bytes_eq other) (taken name xs) ≡ true
-taken_other name other [] apart is = is
-taken_other name other (x ∷ xs) apart is = by (bytes_eq name x) refl is (taken_other name other xs apart)
+    entries : (first.entries ++ map member_entry (take i members)) ++ member_entry m ∷ [] ≡ first.entries ++ map member_entry (take (i + 1) members)
+    entries =
+        append_assoc first.entries (map member_entry (take i members)) (member_entry m ∷ [])
+        ∙ ap (λ (es : List Entry). first.entries ++ es) (sym (map-append member_entry (take i members) (m ∷ [])) ∙ ap (map member_entry) (sym more))
+
+-- there is room for it
+pub entry_fits : (members : List Member) (i : ℕ) (first now : Pieces) → i < length members → length first.entries + length members ≤ first.asked → now ≡ with_entries (map member_entry (take i members)) first → length now.entries < now.asked
+entry_fits members i first now within room so_far =
+    let count = ap (λ (p : Pieces). length p.entries) so_far in
+    let asked = ap (λ (p : Pieces). p.asked) so_far in
+    let sum = length-append first.entries (map member_entry (take i members)) in
+    let some = length-map (take i members) member_entry in
+    let part = length_take members i within in
+    omega (arith, count, asked, sum, some, part, room, within)
   where
-    none : bytes_eq name x ≡ true → bytes_eq other x ≡ false
-    none same = ap (bytes_eq other) (sym (same_bytes name x same)) ∙ apart
+    length_take : {X : Type 0} (xs : List X) (i : ℕ) → i < length xs → length (take i xs) ≡ i
+    length_take [] i within = absurd (omega (arith, within))
+    length_take (x ∷ xs) zero within = refl
+    length_take (x ∷ xs) (suc i) within = let rest = length_take xs i (omega (arith, within)) in omega (arith, rest)
 
-    more : (c : Bool) → (c || list_any (bytes_eq other) xs) ≡ true → (list_any (bytes_eq other) xs ≡ true → list_any (bytes_eq other) (taken name xs) ≡ true) → (c || list_any (bytes_eq other) (taken name xs)) ≡ true
-    more true is later = refl
-    more false is later = later is
+-- its text is not too long
+pub entry_short : (members : List Member) (i : ℕ) (m : Member) → i < length members → m ≡ get_or members i m → text_total (map member_entry members) ≤ TEXT_LIMIT → length m.opam < 2 ^ 32
+entry_short members i m within is few = let short = part members i within is in omega (arith, short, few)
+  where
+    part : (ms : List Member) (i : ℕ) → i < length ms → m ≡ get_or ms i m → length m.opam ≤ text_total (map member_entry ms)
+    part [] i within is = absurd (omega (arith, within))
+    part (x ∷ ms) zero within is = let same = ap (λ (y : Member). length y.opam) is in omega (arith, same)
+    part (x ∷ ms) (suc i) within is = let rest = part ms i (omega (arith, within)) is in omega (arith, rest)
 
-    by : (b : Bool) → bytes_eq name x ≡ b → (bytes_eq other x || list_any (bytes_eq other) xs) ≡ true → (list_any (bytes_eq other) xs ≡ true → list_any (bytes_eq other) (taken name xs) ≡ true) → list_any (bytes_eq other) (taken_by b x xs (taken name xs)) ≡ true
-    by true same is later = sym (ap (λ c. c || list_any (bytes_eq other) xs) (none same)) ∙ is
-    by false same is later = more (bytes_eq other x) is later
-
-all_taken : (name : List ℕ) (roots xs : List (List ℕ)) → AllByRecursion (λ q. byte_order name q ≡ Less) (map own_name roots) → list_all (λ r. list_any (bytes_eq r) xs) roots ≡ true → list_all (λ r. list_any (bytes_eq r) (taken name xs)) roots ≡ true
-all_taken name [] xs less all = refl
-all_taken name (root ∷ roots) xs less all =
-    both_true (list_any (bytes_eq root) (taken name xs)) (list_all (λ r. list_any (bytes_eq r) (taken name xs)) roots)
-    (taken_other name root xs (is_false (bytes_eq root name) (λ same. not_itself name (ap (byte_order name) (sym (same_bytes root name same)) ∙ less.0))) (and_left (list_any (bytes_eq root) xs) (list_all (λ r. list_any (bytes_eq r) xs) roots) all))
-    (all_taken name roots xs less.1 (and_right (list_any (bytes_eq root) xs) (list_all (λ r. list_any (bytes_eq r) xs) roots) all))
-
-fits : (roots xs : List (List ℕ)) → IsStrictlySortedBy byte_order (map own_name roots) → list_all (λ r. list_any (bytes_eq r) xs) roots ≡ true → length roots ≤ length xs
-unfolding IsStrictlySortedBy
-fits [] xs rise all = omega arith
-fits (root ∷ roots) xs rise all =
-    let here = and_left (list_any (bytes_eq root) xs) (list_all (λ r. list_any (bytes_eq r) xs) roots) all in
-    let rest = fits roots (taken root xs) rise.1 (all_taken root roots xs rise.0 (and_right (list_any (bytes_eq root) xs) (list_all (λ r. list_any (bytes_eq r) xs) roots) all)) in
-    let len = taken_len root xs here in
-    omega (arith, rest, len)
+-- a root more is given
+pub root_step : (roots : List (List ℕ)) (i : ℕ) (root : List ℕ) (first now next : Pieces) → i < length roots → root ≡ get_or roots i root → now ≡ with_roots (take i roots) first → next ≡ with_root root now → next ≡ with_roots (take (i + 1) roots) first
+root_step roots i root first now next within is so_far new =
+    new
+    ∙ ap (with_root root) so_far
+    ∙ (λ j. record { head = first.head; asked = first.asked; entries = first.entries; roots = (append_assoc first.roots (take i roots) (root ∷ []) ∙ ap (λ (rs : List (List ℕ)). first.roots ++ rs) (sym more)) j })
+  where
+    more : take (i + 1) roots ≡ take i roots ++ root ∷ []
+    more = take_more roots i root within ∙ (λ j. take i roots ++ sym is j ∷ [])
 
 -- ---- the slot
 
-module _ (state : SwitchState) (number : ℕ) (entries : List Entry) (placed : List Owned) (formed : IsWellFormed state) (free : state.request ≡ None) (told : AreEntriesOf state.members entries) (owned : ArePlaced (map member_entry state.members) state.owned placed) where
-  abbrev slot : Snapshot
-  slot = record { number = number; entries = entries; roots = state.roots; owned = placed }
+owner_is : (members : List Member) (owner : Pkg) → list_any (is_of owner) (map member_entry members) ≡ list_any (λ (m : Member). is_same_pkg (member_pkg m) owner) members
+owner_is [] owner = refl
+owner_is (m ∷ members) owner = ap (λ b. is_same_pkg (member_pkg m) owner || b) (owner_is members owner)
 
-  names_there : entry_names entries ≡ map name_of state.members
-  names_there = ap entry_names told.are ∙ names_are state.members
+owners_are : (members : List Member) (owned : List OwnedPath) → list_all (is_owner_given (map member_entry members)) owned ≡ list_all (λ (o : OwnedPath). list_any (λ (m : Member). is_same_pkg (member_pkg m) o.owner) members) owned
+owners_are members [] = refl
+owners_are members (o ∷ owned) = λ i. owner_is members o.owner i && owners_are members owned i
 
-  pub slot_ordered : IsSlotInOrder slot
-  slot_ordered = record {
-    names_in_order = record {
-      entries_differ = subst (IsDistinct bytes_eq) (sym names_there) formed.names;
+module _ (head : Head) (state : SwitchState) (formed : IsWellFormed state) (free : state.request ≡ None) (small : is_small (contents_in state) ≡ true) where
+  few : are_few (map member_entry state.members) ≡ true
+  few = sym (ap are_few (entries_said state)) ∙ and_left (are_few (entries_of (contents_in state))) (are_few_paths state.owned) small
+
+  pub few_members : length state.members ≤ ENTRY_LIMIT
+  few_members =
+      let count = and_left (nat_le (length (map member_entry state.members)) ENTRY_LIMIT) (nat_le (text_total (map member_entry state.members)) TEXT_LIMIT) few in
+      let same = length-map state.members member_entry in
+      grind (arith, nat_tests)
+
+  pub few_texts : text_total (map member_entry state.members) ≤ TEXT_LIMIT
+  few_texts =
+      let count = and_right (nat_le (length (map member_entry state.members)) ENTRY_LIMIT) (nat_le (text_total (map member_entry state.members)) TEXT_LIMIT) few in
+      grind (arith, nat_tests)
+
+  pub can_finish : CanFinish (pieces_of head state) state.owned
+  can_finish = record {
+    given = length-map state.members member_entry;
+    names = record {
+      entries_differ = subst (IsDistinct bytes_eq) (sym (names_are state.members)) formed.names;
       roots_rise = formed.roots;
-      roots_are_among = ap (λ (ns : List (List ℕ)). list_all (is_among ns) state.roots) names_there ∙ all_among state.members state.roots ∙ formed.asked free;
+      roots_are_among = ap (λ (ns : List (List ℕ)). list_all (is_among ns) state.roots) (names_are state.members) ∙ all_among state.members state.roots ∙ formed.asked free;
     };
-    paths_free = subst AreFree (sym owned.paths) formed.paths;
-    owners_are_among = subst (λ (es : List Entry). list_all (has_owner (length es)) placed ≡ true) (sym told.are) owned.owners;
+    free = formed.paths.free;
+    owners = owners_are state.members state.owned ∙ formed.owners;
+    few = few;
+    few_paths = and_right (are_few (entries_of (contents_in state))) (are_few_paths state.owned) small;
   }
 
-  pub slot_says : (head : Head) → IsSameSwitch (contents_in state) (contents_by head slot)
-  slot_says head = record {
-    entries = stood (slot_path (place_for head)) entries ∙ told.are ∙ sym (entries_said state);
-    owned = subst (λ (es : List Entry). filter_map (owned_with es) placed ≡ state.owned) (sym told.are) owned.told;
-    roots = λ name. refl;
-    request = ap (option_map open_of) (sym free);
-  }
-    where
-      stood : (from : List ℕ) (es : List Entry) → map contents.entry_of (map (standing_of from) es) ≡ es
-      stood from [] = refl
-      stood from (e ∷ es) = ap (λ (more : List Entry). e ∷ more) (stood from es)
+pub pieces_are : (head : Head) (state : SwitchState) (asked : ℕ) (members : List Member) (roots : List (List ℕ)) (one two three : Pieces) → one ≡ begun head asked → asked ≡ length members → two ≡ with_entries (map member_entry members) one → three ≡ with_roots roots two → members ≡ state.members → roots ≡ state.roots
+    → three ≡ pieces_of head state
+pieces_are head state asked members roots one two three first count second third same same_roots =
+    third
+    ∙ ap (with_roots roots) (second ∙ ap (with_entries (map member_entry members)) first)
+    ∙ (λ i. record { head = head; asked = (count ∙ ap length same) i; entries = map member_entry (same i); roots = same_roots i })
 
-  counted_len : {X : Type 0} (spell : X → List ℕ) (xs : List X) → length (counted spell xs) ≡ 4 + length (flat_map spell xs)
-  counted_len spell xs = length-append {A = ℕ} (to_be_bytes w32 (length xs)) (flat_map spell xs)
+stood : (from : List ℕ) (es : List Entry) → map contents.entry_of (map (standing_of from) es) ≡ es
+stood from [] = refl
+stood from (e ∷ es) = ap (λ (more : List Entry). e ∷ more) (stood from es)
 
-  pub slot_short : is_small (contents_in state) ≡ true → length (flat_map short_text state.roots) ≤ 122 * length state.roots → length (slot_bytes slot) ≤ SLOT_LIMIT
-  slot_short small roots =
-      let few = and_left (are_few (entries_of (contents_in state))) (are_few_paths state.owned) small in
-      let es : entries_of (contents_in state) ≡ entries = entries_said state ∙ sym told.are in
-      let few_es : are_few entries ≡ true = ap are_few (sym es) ∙ few in
-      let count : nat_le (length entries) ENTRY_LIMIT ≡ true = and_left (nat_le (length entries) ENTRY_LIMIT) (nat_le (text_total entries) TEXT_LIMIT) few_es in
-      let text : nat_le (text_total entries) TEXT_LIMIT ≡ true = and_right (nat_le (length entries) ENTRY_LIMIT) (nat_le (text_total entries) TEXT_LIMIT) few_es in
-      let paths : nat_le (length state.owned) OWNED_LIMIT ≡ true = and_right (are_few (entries_of (contents_in state))) (are_few_paths state.owned) small in
-      let root_count = fits state.roots (map name_of state.members) formed.roots (sym (all_called state.members state.roots) ∙ formed.asked free) in
-      let name_count = length-map state.members name_of in
-      let entry_count = ap length told.are ∙ length-map state.members member_entry in
-      let path_count = sym (length-map placed (λ (o : Owned). o.path)) ∙ ap length owned.paths ∙ length-map state.owned path_of in
-      let e = counted_len entry_bytes entries in
-      let r = counted_len short_text state.roots in
-      let o = counted_len owned_bytes placed in
-      let ro = length-append {A = ℕ} (counted short_text state.roots) (counted owned_bytes placed) in
-      let ero = length-append {A = ℕ} (counted entry_bytes entries) (counted short_text state.roots ++ counted owned_bytes placed) in
-      let body = length-append {A = ℕ} (to_be_bytes w64 number) (lists_bytes entries state.roots placed) in
-      let whole = length-append {A = ℕ} (codes "OPAMSNP2") (slot_body slot) in
-      let short_e = told.short in
-      let short_o = owned.short in
-      let few_count : length entries ≤ ENTRY_LIMIT = grind (arith, nat_tests) in
-      let few_text : text_total entries ≤ TEXT_LIMIT = grind (arith, nat_tests) in
-      let few_paths : length state.owned ≤ OWNED_LIMIT = grind (arith, nat_tests) in
-      omega (arith, few_count, few_text, few_paths, root_count, name_count, entry_count, path_count, e, r, o, ro, ero, body, whole, short_e, short_o, roots)
+given_says : (head : Head) (state : SwitchState) → state.request ≡ None → IsSameSwitch (contents_in state) (contents_given (pieces_of head state) state.owned)
+given_says head state free = record {
+  entries = stood (slot_path (place_for head)) (map member_entry state.members) ∙ sym (entries_said state);
+  owned = refl;
+  roots = λ name. refl;
+  request = ap (option_map open_of) (sym free);
+}
+
+pub slot_of : (now : Now) (ready : ReadySlot) → now.state.request ≡ None → IsSlotGiven (pieces_of now.head now.state) now.state.owned ready → IsSlotOf now ready
+slot_of now ready free given = record {
+  snapshot = given.snapshot;
+  made = given.made;
+  says = subst (IsSameSwitch (contents_in now.state)) (sym given.says) (given_says now.head now.state free);
+}
+
+pub if_told : {T E : Type 0} {P Q : T → Type 0} (result : Result T E) → IfOk result P → ((x : T) → P x → Q x) → IfOk result Q
+if_told (Ok x) is more = more x is
+if_told (Err e) is more = tt

@@ -44,6 +44,10 @@ pub record IsKeptIn (pkg : Pkg) (text : List ℕ) (kept : KeptFiles) : Type 0 wh
   pub spelled : IsSpelledBy (Remove pkg (Some kept)) text
   pub accepted : IsOpamText pkg kept.opam
 
+-- files that were kept of the package, as the bytes of some record spell them
+abbrev pub IsSomeKept : Pkg → KeptFiles → Type 0
+IsSomeKept pkg kept = (text : List ℕ) × IsKeptIn pkg text kept
+
 -- what is found in a file: these files where it is there and has them, and none exactly where it has none
 abbrev pub IsFoundKept : Pkg → Option (List ℕ) → Option KeptFiles → Type 0
 IsFoundKept pkg None found = found ≡ None

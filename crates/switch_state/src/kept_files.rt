@@ -1,13 +1,13 @@
 // What a removal has kept, read back from its record.
 #![tactic(auto, using(crash_disk::proofs::Effects::read_steps))]
 
-ghost use Rattle.std.specs.Prelude.{◌≡◌, ◌≢◌, ℕ, false, IfOk, IsSome};
+ghost use Rattle.std.specs.Prelude.{◌≡◌, ◌≢◌, ℕ, false, IfOk, IfSome, IsSome};
 ghost use Rattle.std.specs.Option.{option_copied, option_map};
 ghost use Rattle.std.specs.declared.option.Option.TheVariants.{Some};
 ghost use Rattle.opam_package.specs.declared.fault.PackageFault.TheVariants.{Memory};
 ghost use Rattle.crash_disk.specs.Effects.{FailsReading, OnlyReads};
 ghost use Rattle.switch_state.specs.OpamTexts as texts;
-ghost use Rattle.switch_state.specs.OpamTexts.{IsFoundKept, IsIfAccepted, IsKeptBy, SaysAccepted, TellsKept, removed_by};
+ghost use Rattle.switch_state.specs.OpamTexts.{IsFoundKept, IsIfAccepted, IsKeptBy, IsSomeKept, SaysAccepted, TellsKept, removed_by};
 ghost use Rattle.switch_state.specs.State.{request_in};
 
 use crate::request::OpenRequest;
@@ -29,6 +29,7 @@ impl Switch {
         requires { IsSome (removed_by pkg.now self.now.state.request) }
         ensures cause { FailsReading D.Disk disk.old disk.new result }
         ensures reads { OnlyReads D.Disk disk.old disk.new }
+        ensures valid { IfOk result (λ found. IfSome found (IsSomeKept pkg.now)) }
         ensures kept { (number : ℕ) → removed_by pkg.now self.now.state.request ≡ Some number
             → TellsKept pkg.now number (D.told disk.old) result }
     {
@@ -71,6 +72,7 @@ fn number_among(done: &[Done], pkg: &Pkg) -> Option<u64>
 }
 
 // What the record with this number keeps of the package.
+#[tactic(auto, using(crash_disk::proofs::Effects::read_steps, crate::proofs::Accepted::some_kept))]
 fn kept_in_record<D: Disk>(
     disk: &mut D,
     alloc: Global,
@@ -79,6 +81,7 @@ fn kept_in_record<D: Disk>(
 ) -> Result<Option<KeptFiles>, DiskFault>
     ensures cause { FailsReading D.Disk disk.old disk.new result }
     ensures reads { OnlyReads D.Disk disk.old disk.new }
+    ensures valid { IfOk result (λ found. IfSome found (IsSomeKept pkg.now)) }
     ensures kept { TellsKept pkg.now number (D.told disk.old) result }
 {
     let path = record_path_of(alloc, number)?;

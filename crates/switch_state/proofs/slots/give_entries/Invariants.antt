@@ -1,0 +1,7 @@
+use Rattle.std.proofs.Common.{◌≡◌, map, take}
+use Rattle.switch_state.specs.State.{member_entry}
+use Rattle.switch_state.specs.Telling.{with_entries}
+use Rattle.switch_state.proofs.slots.give_entries.Given as goal
+
+abbrev pub invariant-loop-member : goal.invariant-loop-member
+invariant-loop-member l = l.slot ≡ with_entries (map member_entry (take l.member-index l.members)) l.initial.slot

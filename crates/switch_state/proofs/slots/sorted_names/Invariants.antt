@@ -1,4 +1,0 @@
-use Rattle.switch_state.proofs.slots.sorted_names.Given as goal
-
-abbrev pub invariant-loop-at : goal.invariant-loop-at
-invariant-loop-at l = Unit {0}
