@@ -10,6 +10,7 @@ mod names;
 mod openings;
 mod owners;
 mod paths;
+mod pieces;
 mod reports;
 mod spellings;
 mod steps;

@@ -246,16 +246,45 @@ fn image_of(disk: &MemoryDisk, moment: u64, choice: Choice) -> Result<MemoryDisk
     Ok(disk.image(moment, choice)?)
 }
 
-// Whether each stop of what was done with the disk leads to the same. The last record's work and the looks at files after it are
-// the last calls; before them nothing is loose, so that a stop leaves the disk as it was.
+// Whether a stop at each moment of what was done with the disk leads to the same. The last record's work and the looks at files
+// after it are the last calls: there each choice is tried.
 fn is_same_after_stops(
     alloc: Global,
     disk: &MemoryDisk,
     paths: &[RelPath],
     text: &str,
 ) -> Result<bool, Fault> {
-    let clock = disk.clock();
-    for moment in clock.saturating_sub(LAST_CALLS)..clock.saturating_add(1) {
+    let last = disk.clock().saturating_sub(LAST_CALLS);
+    Ok(
+        is_same_before(alloc, disk, last, paths, text)?
+            && is_same_from(alloc, disk, last, paths, text)?,
+    )
+}
+
+// Before this moment nothing is loose, so that a stop leaves the disk as it was, whatever the choice is.
+fn is_same_before(
+    alloc: Global,
+    disk: &MemoryDisk,
+    last: u64,
+    paths: &[RelPath],
+    text: &str,
+) -> Result<bool, Fault> {
+    for moment in 0..last {
+        if !is_same_at(alloc, disk, moment, Choice::Junk, paths, text)? {
+            return Ok(false);
+        }
+    }
+    Ok(true)
+}
+
+fn is_same_from(
+    alloc: Global,
+    disk: &MemoryDisk,
+    first: u64,
+    paths: &[RelPath],
+    text: &str,
+) -> Result<bool, Fault> {
+    for moment in first..disk.clock().saturating_add(1) {
         let same = is_same_at(alloc, disk, moment, Choice::Before, paths, text)?
             && is_same_at(alloc, disk, moment, Choice::After, paths, text)?
             && is_same_at(alloc, disk, moment, Choice::Gone, paths, text)?

@@ -1,10 +1,10 @@
 // A step of a journal that is opened for it: the commit of a record, or the writing of a slot.
-ghost use Rattle.std.specs.Prelude.{◌≡◌, ◌-◌};
 ghost use Rattle.journal_text.specs.Records.{IsSpelledBy};
 ghost use Rattle.journal_text.specs.Slots.{IsSlotSpelledBy};
 
 use crate::openings::paths_of;
-use crash_disk::MemoryDisk;
+use crate::pieces::slot_in_pieces;
+use crash_disk::{MemoryDisk, Write};
 use journal_text::{Rec, Snapshot, decode, decode_slot};
 use opam_names::{Items, RelPath};
 use outside_io::Failed;
@@ -14,7 +14,7 @@ use row_script::lexer::Word;
 use row_script::script::Call;
 use row_script::show::plain;
 use std::alloc::Global;
-use switch_journal::{Journal, OpenFault};
+use switch_journal::{Journal, OpenFault, ReadySlot};
 
 pub fn answer(alloc: Global, call: &Call, devices: &mut Devices) -> Result<String, Fault> {
     let words = call.words.as_slice();
@@ -89,27 +89,24 @@ fn write_slot(
 ) -> Result<String, Fault>
     requires { IsSlotSpelledBy slot.now bytes.now }
 {
-    let journal = open(alloc, disk)?;
+    let mut journal = open(alloc, disk)?;
     if slot.number != journal.last_number() {
         return Err(Fault::Line("the slot has another number than the last record"));
     }
-    write_at_last(alloc, disk, journal, slot, bytes)
-}
-
-fn write_at_last(
-    alloc: Global,
-    disk: &mut MemoryDisk,
-    mut journal: Journal,
-    slot: &Snapshot,
-    bytes: &[u8],
-) -> Result<String, Fault>
-    requires spelled { IsSlotSpelledBy slot.now bytes.now }
-    requires number { slot.now.number ≡ journal.next - 1 }
-{
-    let _spelled = bytes;
-    let ready = journal.ready_slot(alloc, slot)?;
+    let ready = slot_in_pieces(alloc, &journal, slot, bytes)?;
+    if !is_spelled_so(&ready, bytes) {
+        return Err(Fault::Line("the slot is spelled otherwise"));
+    }
     let answer = journal.write_slot(disk, &ready);
     show_step(alloc, answer, &journal)
+}
+
+// Whether the slot has this text.
+fn is_spelled_so(ready: &ReadySlot, bytes: &[u8]) -> bool {
+    match ready.slot.as_slice() {
+        [Write::Put { bytes: text, .. }] => text.as_slice() == bytes,
+        _ => false,
+    }
 }
 
 fn open(alloc: Global, disk: &mut MemoryDisk) -> Result<Journal, Fault> {
