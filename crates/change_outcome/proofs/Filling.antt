@@ -53,7 +53,7 @@ length_put x (y ∷ ys) = by (precedes y.path x.path) (length_put x ys)
     by true later = ap suc later
     by false later = refl
 
-length_own : (pkg : Pkg) (paths : List (List ℕ)) (owned : List OwnedPath) → length (fold (own pkg) owned paths) ≡ length owned + length paths
+pub length_own : (pkg : Pkg) (paths : List (List ℕ)) (owned : List OwnedPath) → length (fold (own pkg) owned paths) ≡ length owned + length paths
 length_own pkg [] owned = omega arith
 length_own pkg (path ∷ paths) owned = (let e = length_own pkg paths (own pkg owned path) in let f = length_put (owned_by path pkg) owned in omega (arith, e, f))
 
@@ -68,7 +68,7 @@ pub record Filled (change : Change) (front : List Member) (point : Point) : Type
   pub removed : length (filter is_removal now.done) ≡ length now.removals
   pub backs : list_any is_put_back now.done ≡ false
 
-length_left : {X : Type 0} (k : ℕ) (xs : List X) → k ≤ length xs → k + length (drop k xs) ≡ length xs
+pub length_left : {X : Type 0} (k : ℕ) (xs : List X) → k ≤ length xs → k + length (drop k xs) ≡ length xs
 length_left zero xs within = omega arith
 length_left (suc k) [] within = absurd (omega arith)
 length_left (suc k) (x ∷ xs) within = (let e = length_left k xs (omega arith) in omega (arith, e))

@@ -9,3 +9,9 @@ pub mod Filling
 pub mod Following
 pub mod Spelling
 pub mod Whole
+pub mod Possible
+pub mod Returning
+pub mod Restoring
+pub mod NoneBack
+pub mod Placing
+pub mod Telling

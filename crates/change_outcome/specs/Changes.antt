@@ -1,5 +1,5 @@
 -- A change, and where it stands between two of its actions. This project's own.
-use Rattle.std.specs.Prelude.{◌≡◌, ℕ, ◌+◌, Bool, List, [], ◌∷◌, ◌++◌, fold}
+use Rattle.std.specs.Prelude.{◌≡◌, ℕ, Bool, List, [], ◌∷◌, ◌++◌, fold}
 use Rattle.std.specs.FinMap.{get}
 use Rattle.std.specs.List.{find}
 use Rattle.std.specs.declared.option.Option.{Option}
@@ -14,6 +14,7 @@ use Rattle.journal_text.specs.declared.record.KeptFiles.{KeptFiles}
 use Rattle.journal_text.specs.declared.record.Placed.{Placed}
 use Rattle.crash_disk.specs.Disks.{Tree}
 use Rattle.switch_journal.specs.Places.{record_path, text_of}
+use Rattle.switch_journal.specs.Steps.{one_more_number}
 use Rattle.switch_journal.specs.declared.request.Done.{Done}
 use Rattle.switch_journal.specs.declared.request.Done.TheVariants as done
 use Rattle.switch_state.specs.Actions.{Action, Installs, PutsBack, Removes, own_files_after, state_after}
@@ -69,11 +70,11 @@ removals_after (Installs member files) point = point.removals
 removals_after (Removes pkg kept) point = point.removals ++ record { pkg = pkg; kept = kept_entry (find (is_member_of pkg) point.state.members) kept } ∷ []
 removals_after (PutsBack member files) point = point.removals
 
--- the switch after an action
+-- the switch after an action; numbers stand still at their end, as those of its journal do
 abbrev pub point_after : Point → Action → Point
 point_after point action = record {
   state = state_after point.number action point.state;
-  number = point.number + 1;
+  number = one_more_number point.number;
   files = own_files_after action point.state point.files;
   removals = removals_after action point;
 }

@@ -9,3 +9,5 @@ pub mod SpellingLaws
 pub mod SuccessLaws
 pub mod ForeignLaws
 pub mod OutsideLaws
+pub mod PossibleRuns
+pub mod PossibleLaws

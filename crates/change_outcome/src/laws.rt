@@ -1,12 +1,14 @@
 // What holds of every outcome. Nothing here runs: each function stands for its law.
 ghost use Rattle.change_outcome.specs.ForeignLaws.{ForeignFilesStay};
 ghost use Rattle.change_outcome.specs.OutsideLaws.{ActionsStayOutside, PutBacksSeeOutside, RemovalsSeeOutside, VerdictsSeeOutside};
+ghost use Rattle.change_outcome.specs.PossibleLaws.{WhatIsDecidedMayCome, WhatIsPutBackMayCome, WhatMayComeBackCanFollow, WhatMayComeBackStandsWell, WhatMayComeCanFollow, WhatMayComeStandsWell};
 ghost use Rattle.change_outcome.specs.Running.{ActionsCanFollow};
 ghost use Rattle.change_outcome.specs.ScheduleLaws.{SchedulesGiveTheOutcome};
 ghost use Rattle.change_outcome.specs.SpellingLaws.{InstallsAreSpelled, PutBacksAreSpelled};
-ghost use Rattle.change_outcome.specs.SuccessLaws.{SuccessIsWhole};
+ghost use Rattle.change_outcome.specs.SuccessLaws.{SuccessIsWhole, SuccessIsWholeInAll};
 
 use change_floor::schedule_does_not_decide;
+use switch_state::{actions_keep_form, requests_remove_first};
 
 /// Whatever the order in which jobs start and end, what is decided is the outcome.
 pub fn schedules_give_the_outcome()
@@ -39,7 +41,36 @@ pub fn records_are_spelled()
     ensures put_backs { PutBacksAreSpelled }
 {}
 
-/// Where no install fails, none is given up, and all that was to come is installed.
+/// Where no install fails, none is given up, and all that was to come is installed. Where no member is left out, nothing is put back
+/// then.
 pub fn success_is_whole()
-    ensures { SuccessIsWhole }
+    ensures actions { SuccessIsWhole }
+    ensures whole { SuccessIsWholeInAll }
 {}
+
+/// Whatever comes of a change over devices that tell nothing, its next removal or install can be committed, and the switch stands
+/// well there.
+pub fn what_may_come_can_follow()
+    ensures follows { WhatMayComeCanFollow }
+    ensures stands { WhatMayComeStandsWell }
+{
+    actions_keep_form();
+}
+
+/// A package that can come back can be committed when its turn has come, whatever came before, and the switch stands well there.
+pub fn what_may_come_back_can_follow()
+    ensures follows { WhatMayComeBackCanFollow }
+    ensures stands { WhatMayComeBackStandsWell }
+{
+    actions_keep_form();
+    requests_remove_first();
+}
+
+/// What is decided is among what may come.
+pub fn what_is_decided_may_come()
+    ensures actions { WhatIsDecidedMayCome }
+    ensures put_backs { WhatIsPutBackMayCome }
+{
+    actions_keep_form();
+    requests_remove_first();
+}
