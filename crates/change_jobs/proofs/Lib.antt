@@ -1,0 +1,11 @@
+mod Viewed
+mod Short
+mod Floored
+mod Runners
+mod Waits
+mod Abreasts
+mod Coursed
+mod Lately
+mod Steps
+mod CourseLaws
+mod Decides
