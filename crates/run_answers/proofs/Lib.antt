@@ -1,0 +1,2 @@
+mod Delivered
+pub mod Openings
