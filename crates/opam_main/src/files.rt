@@ -38,9 +38,12 @@ pub fn read_file<R: Files>(
     if found_at(rt, path)?.is_none() {
         return Ok(Content::Absent);
     }
-    let file = open_regular(rt, path)?;
-    let mut bytes = Vec::new(alloc);
-    let count = file.take(limit.saturating_add(1)).read_to_end(&mut bytes)?;
+    let length = regular_at(rt, path)?.len();
+    let most = limit.saturating_add(1);
+    // There is room for the whole file and for the read that finds its end, so that nothing is moved.
+    let room = length.saturating_add(1).min(most);
+    let mut bytes = Vec::with_capacity(alloc, room as usize)?;
+    let count = fs::open(rt, path)?.take(most).read_to_end(&mut bytes)?;
     if count as u64 > limit {
         return Ok(Content::TooLong);
     }
@@ -49,8 +52,15 @@ pub fn read_file<R: Files>(
 
 /// Opens the regular file at a path, or at the end of the links there. All else is an error.
 pub fn open_regular<R: Files>(rt: &R, path: &str) -> Result<R::File, FileError> {
-    if !fs::metadata(rt, path)?.is_file() {
+    regular_at(rt, path)?;
+    Ok(fs::open(rt, path)?)
+}
+
+// The regular file at a path, or at the end of the links there.
+fn regular_at<R: Files>(rt: &R, path: &str) -> Result<Metadata, FileError> {
+    let data = fs::metadata(rt, path)?;
+    if !data.is_file() {
         return Err(FileError::NoFile);
     }
-    Ok(fs::open(rt, path)?)
+    Ok(data)
 }
