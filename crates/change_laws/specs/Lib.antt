@@ -1,0 +1,5 @@
+pub mod Fits
+pub mod SoundRuns
+pub mod Rests
+pub mod RestLaws
+pub mod BeginLaws
